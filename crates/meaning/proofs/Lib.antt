@@ -1,0 +1,1 @@
+-- The laws of the definitions in `specs/`. No code is involved.

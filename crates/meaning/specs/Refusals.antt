@@ -1,0 +1,44 @@
+-- The refusal table: its rows in the order in which the checks run, and which number is given.
+use Prim.Native.Nat.{ℕ}
+use mathlib.Core.Path.{_≡_}
+use mathlib.Core.Logic.{_⊎_}
+use mathlib.Core.List.{List}
+use Rattle.meaning.specs.Day.{TooShort, OtherVersion, WrongContents, WrongLength, WrongLists, WrongNesting}
+use Rattle.meaning.specs.Notation.{TooLong, NotFollowing, TooLarge}
+use Rattle.meaning.specs.Pages.{TooMany}
+
+-- A table of refusals: a number with its reason, and the rows after it.
+pub data Table : Type 1 where
+  end : Table
+  row : ℕ → Type 0 → Table → Table
+
+-- Rows 1 to 6, of which each is about the index, and then other rows.
+abbrev pub indexRows : List ℕ → Table → Table
+indexRows b rest =
+    row 1 (TooShort b) (row 2 (OtherVersion b) (row 3 (WrongContents b) (row 4 (WrongLength b) (row 5 (WrongLists b) (row 6 (WrongNesting b) rest)))))
+
+-- Rows 7 to 10, about the question.
+abbrev pub questionRows : List ℕ → List ℕ → Table
+questionRows b text = row 7 (TooLong text) (row 8 (NotFollowing text) (row 9 (TooLarge text) (row 10 (TooMany b text) end)))
+
+-- The table of the check call, which knows 1 to 6.
+abbrev pub checkTable : List ℕ → Table
+checkTable b = indexRows b end
+
+-- The table of the answer call and of the evidence call.
+abbrev pub callTable : List ℕ → List ℕ → Table
+callTable b text = indexRows b (questionRows b text)
+
+-- The number n is given: it is the number of the first row whose reason applies.
+abbrev pub Given : Table → ℕ → Type 0
+Given end n = ⊥
+Given (row m reason rest) n = (reason × (n ≡ m)) ⊎ ((reason → ⊥) × Given rest n)
+
+-- No reason of the table applies.
+abbrev pub Clear : Table → Type 0
+Clear end = Unit
+Clear (row m reason rest) = (reason → ⊥) × Clear rest
+
+-- A lawful index: no reason of 1 to 6 applies.
+abbrev pub Lawful : List ℕ → Type 0
+Lawful b = Clear (checkTable b)

@@ -1,0 +1,102 @@
+// What the public results are made of, and the limits of document 01, for every crate to share.
+ghost use mathlib.Core.Path.{_≡_};
+ghost use Rattle.meaning.specs.Limits.{mostTags, mostLabels, mostNested, mostName, mostText, mostSteps, mostDepth};
+
+// What a call says of the page that it wrote. A refusal has its number, 0 rows, no further record and next place 0.
+pub struct Page {
+    // The number of the refusal table, or 0.
+    pub refusal: u32,
+    // How many rows were written.
+    pub rows: usize,
+    // Whether a further record remains.
+    pub more: bool,
+    // The place from which the next page goes on.
+    pub next: u32,
+}
+
+// A label: the numbers at which a record starts and ends.
+pub struct Label {
+    pub start: u32,
+    pub end: u32,
+}
+
+impl Label {
+    // Most labels that lie each inside the one before.
+    pub const MOST_NESTED: usize = 64;
+
+    // The limit that the promises speak of is this constant.
+    pub fn most_nested() -> usize
+        ensures { λ r. ⌜ r ≡ mostNested ⌝ }
+    {
+        Label::MOST_NESTED
+    }
+}
+
+// A day index.
+pub struct Index {}
+
+impl Index {
+    pub const MOST_TAGS: usize = 256;
+
+    pub const MOST_LABELS: usize = 1_048_576;
+
+    pub fn most_tags() -> usize
+        ensures { λ r. ⌜ r ≡ mostTags ⌝ }
+    {
+        Index::MOST_TAGS
+    }
+
+    pub fn most_labels() -> usize
+        ensures { λ r. ⌜ r ≡ mostLabels ⌝ }
+    {
+        Index::MOST_LABELS
+    }
+}
+
+// A name of a tag.
+pub struct Name {}
+
+impl Name {
+    pub const MOST_BYTES: usize = 16;
+
+    pub fn most_bytes() -> usize
+        ensures { λ r. ⌜ r ≡ mostName ⌝ }
+    {
+        Name::MOST_BYTES
+    }
+}
+
+// A question's text.
+pub struct Question {}
+
+impl Question {
+    pub const MOST_BYTES: usize = 1_024;
+
+    pub fn most_bytes() -> usize
+        ensures { λ r. ⌜ r ≡ mostText ⌝ }
+    {
+        Question::MOST_BYTES
+    }
+}
+
+// A step of a question.
+pub struct Step {}
+
+impl Step {
+    pub const MOST: usize = 32;
+
+    // Most brackets that stand one in the other around a step.
+    pub const MOST_DEPTH: usize = 8;
+
+    pub fn most() -> usize
+        ensures { λ r. ⌜ r ≡ mostSteps ⌝ }
+    {
+        Step::MOST
+    }
+
+    pub fn most_depth() -> usize
+        ensures { λ r. ⌜ r ≡ mostDepth ⌝ }
+    {
+        Step::MOST_DEPTH
+    }
+}

@@ -1,0 +1,122 @@
+-- From a lawful index to what picks rest on: facts about the lists of labels of a question's steps, in which no byte is named.
+use Prim.Native.Nat.{ℕ, zero, suc, _+_, _≤_, _<_}
+use native.Mathlib.Nat.{eq-or-lt-of-le, le-of-suc-le-suc}
+use native.Mathlib.Omega.{arith}
+use mathlib.Core.Path.{_≡_, refl, sym, ap, subst, subst₂, _∙_}
+use mathlib.Core.Logic.{_⊎_, inl, inr, _≢_, ⊎-elim}
+use mathlib.Core.Bool.{Bool, true, false, cond}
+use mathlib.Core.List.{List}
+use Rattle.meaning.specs.declared.Label.{Label}
+use Rattle.meaning.specs.Labels.{Inside, Apart, Lists, Place, labelOf, Holds, LawfulLists}
+use Rattle.meaning.specs.Names.{filled, same}
+use Rattle.meaning.specs.Day.{tags, offset, count, labels, total, labelAt, listsOf, nameField, Body, listAmong, listOf}
+use Rattle.meaning.specs.Notation.{Path, from}
+use Rattle.meaning.specs.Picks.{Asked, asked, stepAt}
+use Rattle.meaning.specs.Refusals.{Lawful}
+use Rattle.meaning.proofs.Decide.{or-not, eq-decides}
+use Rattle.meaning.proofs.LabelLaws.{lawful-lists}
+use Rattle.meaning.proofs.StepLaws.{returned-lt, hook-upward}
+
+-- The list of row r.
+abbrev pub rowList : List ℕ → ℕ → Body
+rowList b r = record { offset = offset b r; count = count b r }
+
+-- A list is that of a row below m, or has no labels.
+abbrev pub OfRow : List ℕ → ℕ → Body → Type 0
+OfRow b m l = ((r : ℕ) × (r < m) × (l ≡ rowList b r)) ⊎ (l .count ≡ 0)
+
+among : (b n : List ℕ) (m : ℕ) → OfRow b m (listAmong b n m)
+unfolding listAmong
+among b n zero = inr refl
+among b n (suc m) = go (same (nameField b m) (filled n)) (among b n m)
+  where
+    go : (t : Bool) → OfRow b m (listAmong b n m) → OfRow b (suc m) (cond t (rowList b m) (listAmong b n m))
+    go true h = inl (m, omega arith, refl)
+    go false (inl h) = inl (h .0, omega (arith, h .1), h .2)
+    go false (inr h) = inr h
+
+-- The list of a name is that of a row, or has no labels.
+pub list-of-row : (b n : List ℕ) → OfRow b (tags b) (listOf b n)
+list-of-row b n = among b n (tags b)
+
+count-within : (b : List ℕ) (m r : ℕ) → r < m → count b r ≤ labels b m
+unfolding labels
+count-within b zero r l = absurd (omega arith)
+count-within b (suc m) r l =
+    let ih = count-within b m r in
+    ⊎-elim (λ e. subst (λ (k : ℕ). count b r ≤ labels b m + count b k) e (omega arith)) (λ k. omega (arith, ih k)) (eq-or-lt-of-le (le-of-suc-le-suc l))
+
+-- No list has more labels than the whole index.
+pub list-small : (b n : List ℕ) → listOf b n .count ≤ total b
+list-small b n = ⊎-elim (λ h. subst (λ (l : Body). l .count ≤ total b) (sym (h .2)) (count-within b (tags b) (h .0) (h .1))) (λ e. omega (arith, e)) (list-of-row b n)
+
+-- What picks rest on: a step hangs from an earlier one, the returned step is one, the records of each step are ordered and ascend by
+-- start, and the records of two steps are the same one, or one lies inside the other, or they are apart.
+pub record Fit (a : Asked) : Type 0 where
+  pub returned-lt : a .returned < a .steps
+  pub upward : (s u : ℕ) → s < a .steps → a .hook s ≡ from u → u < s
+  pub ordered : (s i : ℕ) → i < a .count s → a .label s i .start < a .label s i .end
+  pub ascending : (s i j : ℕ) → i < j → j < a .count s → a .label s i .start < a .label s j .start
+  pub laminar : (s i u j : ℕ) → i < a .count s → j < a .count u
+      → (a .label s i ≡ a .label u j) ⊎ Inside (a .label s i) (a .label u j) ⊎ Inside (a .label u j) (a .label s i) ⊎ Apart (a .label s i) (a .label u j)
+
+-- Label i of a list that is a row's, as a label of the day.
+module _ (b : List ℕ) where
+  abbrev at-list : Body → ℕ → Label
+  at-list l i = labelAt b (l .offset) i
+
+  -- A label of a list stands at a place of the day.
+  abbrev Placed : Body → ℕ → Type 0
+  Placed l i = (x : Place) × Holds (listsOf b) x × (labelOf (listsOf b) x ≡ at-list l i)
+
+  placed : (l : Body) (i : ℕ) → OfRow b (tags b) l → i < l .count → Placed l i
+  placed l i (inl (r, r-lt, e)) il =
+      (record { list = r; at = i }, record { list-lt = r-lt; at-lt = subst (λ (m : Body). i < m .count) e il }, ap (λ (m : Body). at-list m i) (sym e))
+  placed l i (inr e) il = absurd (omega arith)
+
+  place-≡ : (x y : Place) → x .list ≡ y .list → x .at ≡ y .at → x ≡ y
+  place-≡ x y p q = λ i. record { list = p i; at = q i }
+
+  same-place : (x y : Place) → (x ≡ y) ⊎ (x ≢ y)
+  same-place x y = ⊎-elim (λ p. ⊎-elim (λ q. inl (place-≡ x y p q)) (λ q. inr (λ e. q (ap (λ (z : Place). z .at) e))) (equal (x .at) (y .at))) (λ p. inr (λ e. p (ap (λ (z : Place). z .list) e))) (equal (x .list) (y .list))
+    where
+      equal : (m n : ℕ) → (m ≡ n) ⊎ (m ≢ n)
+      equal m n = or-not (eq-decides m n)
+
+  module _ (law : LawfulLists (listsOf b)) (l : Body) (of-l : OfRow b (tags b) l) where
+    list-ordered : (i : ℕ) → i < l .count → at-list l i .start < at-list l i .end
+    list-ordered i il = let p = placed l i of-l il in subst (λ (z : Label). z .start < z .end) (p .2) (law .ordered (p .0) (p .1))
+
+    list-ascending : (i j : ℕ) → i < j → j < l .count → at-list l i .start < at-list l j .start
+    list-ascending i j ij jl = go of-l
+      where
+        go : OfRow b (tags b) l → at-list l i .start < at-list l j .start
+        go (inl (r, r-lt, e)) =
+            subst (λ (m : Body). at-list m i .start < at-list m j .start) (sym e) (law .ascending r i j r-lt ij (subst (λ (m : Body). j < m .count) e jl))
+        go (inr e) = absurd (omega arith)
+
+    list-laminar : (m : Body) → OfRow b (tags b) m → (i j : ℕ) → i < l .count → j < m .count
+        → (at-list l i ≡ at-list m j) ⊎ Inside (at-list l i) (at-list m j) ⊎ Inside (at-list m j) (at-list l i) ⊎ Apart (at-list l i) (at-list m j)
+    list-laminar m of-m i j il jm = go (placed l i of-l il) (placed m j of-m jm)
+      where
+        go : Placed l i → Placed m j → (at-list l i ≡ at-list m j) ⊎ Inside (at-list l i) (at-list m j) ⊎ Inside (at-list m j) (at-list l i) ⊎ Apart (at-list l i) (at-list m j)
+        go (x, hx, ex) (y, hy, ey) =
+            ⊎-elim (λ e. inl (sym ex ∙ ap (labelOf (listsOf b)) e ∙ ey))
+            (λ n. inr (subst₂ (λ (z w : Label). Inside z w ⊎ Inside w z ⊎ Apart z w) ex ey (law .nested-or-apart x y hx hy n))) (same-place x y)
+
+-- On a lawful day every question is fit.
+pub lawful-fit : (b : List ℕ) (p : Path) → Lawful b → Fit (asked b p)
+unfolding asked
+lawful-fit b p (no₁, (no₂, (no₃, (no₄, (no₅, (no₆, rest)))))) =
+    let law = lawful-lists (listsOf b) no₅ no₆ in
+    record {
+      returned-lt = returned-lt p;
+      upward = hook-upward p;
+      ordered = λ s. list-ordered b law (tag s) (list-of-row b (stepAt p s .name));
+      ascending = λ s. list-ascending b law (tag s) (list-of-row b (stepAt p s .name));
+      laminar = λ s i u. list-laminar b law (tag s) (list-of-row b (stepAt p s .name)) (tag u) (list-of-row b (stepAt p u .name)) i;
+    }
+  where
+    -- The list of step s.
+    tag : ℕ → Body
+    tag s = listOf b (stepAt p s .name)

@@ -1,0 +1,51 @@
+-- Names in a text: where a name ends is seen from what follows it, so that a text begins with one name only.
+use Prim.Native.Nat.{ℕ}
+use mathlib.Core.Path.{_≡_, refl, sym, _∙_, subst}
+use mathlib.Core.Bool.{true, false, _&&_, true≢false, false≢true, and-eq-true-iff}
+use mathlib.Core.List.{List, [], _∷_, _++_}
+use lib.Dec.{leb}
+use lib.ListN.{length}
+use Rattle.meaning.specs.Limits.{mostName}
+use Rattle.meaning.specs.Names.{initial, further, allFurther, isName, Name}
+
+-- The text does not go on with a character of a name: it is at its end, or its first byte may not stand in a name.
+abbrev pub NoFurther : List ℕ → Type 0
+NoFurther [] = Unit
+NoFurther (c ∷ cs) = further c ≡ false
+
+-- A name's first character may also stand behind the first.
+pub initial-further : (c : ℕ) → initial c ≡ true → further c ≡ true
+unfolding further
+initial-further c e = simp e
+
+-- All characters of a name may stand behind the first.
+pub name-further : (n : List ℕ) → Name n → allFurther n ≡ true
+unfolding isName allFurther
+name-further [] h = absurd (false≢true h)
+name-further (c ∷ cs) h =
+    let a = and-eq-true-iff (initial c) (allFurther cs && leb (length (c ∷ cs)) mostName) .0 h in
+    let b = and-eq-true-iff (allFurther cs) (leb (length (c ∷ cs)) mostName) .0 (a .1) in
+    and-eq-true-iff (further c) (allFurther cs) .1 (initial-further c (a .0), b .0)
+
+-- A text that does not go on with such a character does not begin with some of them.
+further-stops : (c : ℕ) (cs r s : List ℕ) → allFurther (c ∷ cs) ≡ true → NoFurther r → r ≡ c ∷ cs ++ s → ⊥
+unfolding allFurther
+further-stops c cs r s h k e =
+    let a = and-eq-true-iff (further c) (allFurther cs) .0 h in
+    true≢false (sym (a .0) ∙ subst NoFurther e k)
+
+-- Where two lists of such characters are followed by something else, equal texts have equal lists and go on equally.
+further-same : (m n r s : List ℕ) → allFurther m ≡ true → allFurther n ≡ true → NoFurther r → NoFurther s → m ++ r ≡ n ++ s → (m ≡ n) × (r ≡ s)
+unfolding allFurther
+further-same [] [] r s hm hn hr hs e = (refl, e)
+further-same [] (y ∷ n) r s hm hn hr hs e = absurd (further-stops y n r s hn hr e)
+further-same (x ∷ m) [] r s hm hn hr hs e = absurd (further-stops x m s r hm hs (sym e))
+further-same (x ∷ m) (y ∷ n) r s hm hn hr hs e =
+    let a = and-eq-true-iff (further x) (allFurther m) .0 hm in
+    let b = and-eq-true-iff (further y) (allFurther n) .0 hn in
+    let t = further-same m n r s (a .1) (b .1) hr hs (cc) in
+    (cc, t .1)
+
+-- Where two names are followed by something else, equal texts have equal names and go on equally.
+pub name-same : (m n r s : List ℕ) → Name m → Name n → NoFurther r → NoFurther s → m ++ r ≡ n ++ s → (m ≡ n) × (r ≡ s)
+name-same m n r s hm hn hr hs e = further-same m n r s (name-further m hm) (name-further n hn) hr hs e

@@ -1,0 +1,76 @@
+-- The refusal table: at most one number is given, and it is the least whose reason applies.
+use Prim.Native.Nat.{ℕ, _≤_, _<_}
+use native.Mathlib.Omega.{arith}
+use mathlib.Core.Path.{_≡_, refl, sym, _∙_}
+use mathlib.Core.Logic.{_⊎_, inl, inr}
+use mathlib.Core.List.{List}
+use Rattle.meaning.specs.Refusals.{Table, end, row, Given, Clear, Lawful, indexRows, questionRows, checkTable, callTable}
+use Rattle.meaning.specs.Promises.{Checked, lawful, refused}
+
+-- A table gives at most one number.
+pub given-one : (t : Table) (m n : ℕ) → Given t m → Given t n → m ≡ n
+given-one end m n g h = absurd g
+given-one (row k reason rest) m n (inl g) (inl h) = g .1 ∙ sym (h .1)
+given-one (row k reason rest) m n (inl g) (inr h) = absurd (h .0 (g .0))
+given-one (row k reason rest) m n (inr g) (inl h) = absurd (g .0 (h .0))
+given-one (row k reason rest) m n (inr g) (inr h) = given-one rest m n (g .1) (h .1)
+
+-- Where no reason applies no number is given.
+pub clear-not-given : (t : Table) (n : ℕ) → Clear t → Given t n → ⊥
+clear-not-given end n c g = g
+clear-not-given (row k reason rest) n c (inl g) = c .0 (g .0)
+clear-not-given (row k reason rest) n c (inr g) = clear-not-given rest n (c .1) (g .1)
+
+-- The reason of number n applies.
+abbrev pub Applies : Table → ℕ → Type 0
+Applies end n = ⊥
+Applies (row m reason rest) n = (reason × (n ≡ m)) ⊎ Applies rest n
+
+-- The rows' numbers ascend, and are all above k.
+abbrev pub Rising : ℕ → Table → Type 0
+Rising k end = Unit
+Rising k (row n reason rest) = (k < n) × Rising n rest
+
+-- A number is given only for its reason.
+pub given-applies : (t : Table) (n : ℕ) → Given t n → Applies t n
+given-applies end n g = g
+given-applies (row m reason rest) n (inl g) = inl g
+given-applies (row m reason rest) n (inr g) = inr (given-applies rest n (g .1))
+
+above : (t : Table) (k : ℕ) → Rising k t → (n : ℕ) → Applies t n → k < n
+above end k r n a = absurd a
+above (row m reason rest) k r n (inl a) = omega (arith, r .0, a .1)
+above (row m reason rest) k r n (inr a) = omega (arith, r .0, above rest m (r .1) n a)
+
+-- The number that is given is the least whose reason applies.
+pub given-least : (t : Table) (k : ℕ) → Rising k t → (n m : ℕ) → Given t n → Applies t m → n ≤ m
+given-least end k r n m g a = absurd g
+given-least (row j reason rest) k r n m (inl g) (inl a) = omega (arith, g .1, a .1)
+given-least (row j reason rest) k r n m (inl g) (inr a) = omega (arith, g .1, above rest j (r .1) m a)
+given-least (row j reason rest) k r n m (inr g) (inl a) = absurd (g .0 (a .0))
+given-least (row j reason rest) k r n m (inr g) (inr a) = given-least rest j (r .1) n m (g .1) a
+
+-- The numbers of document 01's table ascend from 1 to 10, in the order in which the checks run.
+pub call-rising : (b text : List ℕ) → Rising 0 (callTable b text)
+call-rising b text = (omega arith, (omega arith, (omega arith, (omega arith, (omega arith, (omega arith, (omega arith, (omega arith, (omega arith, (omega arith, tt))))))))))
+
+-- What the index's rows say goes before what stands behind them: a broken index gives its own number, whatever the question.
+pub index-first : (b : List ℕ) (rest : Table) (n : ℕ) → Given (checkTable b) n → Given (indexRows b rest) n
+index-first b rest n (inl g) = inl g
+index-first b rest n (inr (no₁, inl g)) = inr (no₁, inl g)
+index-first b rest n (inr (no₁, inr (no₂, inl g))) = inr (no₁, inr (no₂, inl g))
+index-first b rest n (inr (no₁, inr (no₂, inr (no₃, inl g)))) = inr (no₁, inr (no₂, inr (no₃, inl g)))
+index-first b rest n (inr (no₁, inr (no₂, inr (no₃, inr (no₄, inl g))))) = inr (no₁, inr (no₂, inr (no₃, inr (no₄, inl g))))
+index-first b rest n (inr (no₁, inr (no₂, inr (no₃, inr (no₄, inr (no₅, inl g)))))) = inr (no₁, inr (no₂, inr (no₃, inr (no₄, inr (no₅, inl g)))))
+index-first b rest n (inr (no₁, inr (no₂, inr (no₃, inr (no₄, inr (no₅, inr g)))))) = absurd (g .1)
+
+-- A call that refuses nothing has a lawful index.
+pub clear-lawful : (b : List ℕ) (text : List ℕ) → Clear (callTable b text) → Lawful b
+clear-lawful b text (no₁, (no₂, (no₃, (no₄, (no₅, (no₆, rest)))))) = (no₁, (no₂, (no₃, (no₄, (no₅, (no₆, tt))))))
+
+-- The check call's promise fixes its result.
+pub checked-fixed : (b : List ℕ) (m n : ℕ) → Checked b m → Checked b n → m ≡ n
+checked-fixed b m n (lawful c) (lawful d) = refl
+checked-fixed b m n (lawful c) (refused g) = absurd (clear-not-given (checkTable b) n c g)
+checked-fixed b m n (refused g) (lawful c) = absurd (clear-not-given (checkTable b) m c g)
+checked-fixed b m n (refused g) (refused h) = given-one (checkTable b) m n g h

@@ -66,6 +66,12 @@ pub not-decides : {P : Type 0} {a : Bool} → Decides P a → Decides (P → ⊥
 not-decides (holds p) = fails (λ h. h p)
 not-decides (fails n) = holds n
 
+-- Both, where the second is computed only if the first passes.
+pub then-decides : {P Q : Type 0} {a b : Bool} → Decides P a → Decides Q b → Decides (P × Q) (elim a [ true ↦ b | false ↦ false ])
+then-decides (holds p) (holds q) = holds (p, q)
+then-decides (holds p) (fails q) = fails (λ h. q (h .1))
+then-decides (fails p) q = fails (λ h. p (h .0))
+
 -- If a, then b.
 abbrev pub implies : Bool → Bool → Bool
 implies true b = b

@@ -8,3 +8,9 @@ pub mod NotationLaws
 pub mod LabelLaws
 pub mod DayLaws
 pub mod PickLaws
+pub mod DecidePicks
+pub mod EvidenceLaws
+pub mod RecordLaws
+pub mod PageLaws
+pub mod PromiseLaws
+pub mod WalkLaws

@@ -4,7 +4,7 @@ use native.Mathlib.Nat.{eq-or-lt-of-le, le-of-suc-le-suc}
 use native.Mathlib.Omega.{arith}
 use mathlib.Core.Path.{_≡_, refl, sym, subst}
 use mathlib.Core.Logic.{_⊎_, inl, inr, ⊎-elim}
-use mathlib.Core.Bool.{Bool, true, false, not, _&&_, _||_}
+use mathlib.Core.Bool.{Bool, true, false, not, _&&_, true≢false, false≢true}
 use lib.Dec.{T, leb, ltb, eqb}
 use borrow.Author.Tests.{leb-true, leb-false, eqb-true, eqb-false}
 
@@ -33,6 +33,7 @@ pub decides-as : {P Q : Type 0} {b : Bool} → (P → Q) → (Q → P) → Decid
 decides-as f g (holds p) = holds (f p)
 decides-as f g (fails n) = fails (λ q. n (g q))
 
+-- Tests of numbers.
 pub le-decides : (m n : ℕ) → Decides (m ≤ n) (leb m n)
 le-decides m n = go (leb m n) refl
   where
@@ -50,38 +51,48 @@ eq-decides m n = go (eqb m n) refl
     go true e = holds (eqb-true m n e)
     go false e = fails (eqb-false m n e)
 
+-- Both.
 pub and-decides : {P Q : Type 0} {a b : Bool} → Decides P a → Decides Q b → Decides (P × Q) (a && b)
 and-decides (holds p) (holds q) = holds (p, q)
 and-decides (holds p) (fails q) = fails (λ h. q (h .1))
 and-decides (fails p) (holds q) = fails (λ h. p (h .0))
 and-decides (fails p) (fails q) = fails (λ h. p (h .0))
 
-pub or-decides : {P Q : Type 0} {a b : Bool} → Decides P a → Decides Q b → Decides (P ⊎ Q) (a || b)
-or-decides (holds p) (holds q) = holds (inl p)
-or-decides (holds p) (fails q) = holds (inl p)
-or-decides (fails p) (holds q) = holds (inr q)
-or-decides (fails p) (fails q) = fails (⊎-elim p q)
-
+-- Not.
 pub not-decides : {P : Type 0} {a : Bool} → Decides P a → Decides (P → ⊥) (not a)
 not-decides (holds p) = fails (λ h. h p)
 not-decides (fails n) = holds n
 
--- Both, where the second is computed only if the first passes.
-pub then-decides : {P Q : Type 0} {a b : Bool} → Decides P a → Decides Q b → Decides (P × Q) (elim a [ true ↦ b | false ↦ false ])
-then-decides (holds p) (holds q) = holds (p, q)
-then-decides (holds p) (fails q) = fails (λ h. q (h .1))
-then-decides (fails p) q = fails (λ h. p (h .0))
+-- Both, where the second test waits for the first and may rest on it: `_&&_` computes both of its sides, and an `elim` waits with its cases.
+pub after-decides : {P Q : Type 0} {a b : Bool} → Decides P a → (P → Decides Q b) → Decides (P × Q) (elim a [ true ↦ b | false ↦ false ])
+after-decides (holds p) q = decides-as (λ h. (p, h)) (λ h. h .1) (q p)
+after-decides (fails p) q = fails (λ h. p (h .0))
 
--- If a, then b.
-abbrev pub implies : Bool → Bool → Bool
-implies true b = b
-implies false b = true
+-- Both, where the second test waits for the first.
+pub both-decides : {P Q : Type 0} {a b : Bool} → Decides P a → Decides Q b → Decides (P × Q) (elim a [ true ↦ b | false ↦ false ])
+both-decides d e = after-decides d (λ h. e)
 
-pub implies-decides : {P Q : Type 0} {a b : Bool} → Decides P a → Decides Q b → Decides (P → Q) (implies a b)
-implies-decides (holds p) (holds q) = holds (λ h. q)
-implies-decides (holds p) (fails q) = fails (λ h. q (h p))
-implies-decides (fails p) (holds q) = holds (λ h. q)
-implies-decides (fails p) (fails q) = holds (λ h. absurd (p h))
+-- Either, where the second test waits for the first.
+pub either-decides : {P Q : Type 0} {a b : Bool} → Decides P a → Decides Q b → Decides (P ⊎ Q) (elim a [ true ↦ true | false ↦ b ])
+either-decides (holds p) q = holds (inl p)
+either-decides (fails p) (holds q) = holds (inr q)
+either-decides (fails p) (fails q) = fails (⊎-elim p q)
+
+-- A test decides whether it is true.
+pub true-decides : (b : Bool) → Decides (b ≡ true) b
+true-decides true = holds refl
+true-decides false = fails false≢true
+
+-- Two truth values are the same.
+abbrev pub sameBool : Bool → Bool → Bool
+sameBool true b = b
+sameBool false b = not b
+
+pub bool-decides : (a b : Bool) → Decides (a ≡ b) (sameBool a b)
+bool-decides true true = holds refl
+bool-decides true false = fails true≢false
+bool-decides false true = fails false≢true
+bool-decides false false = holds refl
 
 -- Each number below n passes; the first that fails ends the computation.
 unfoldable pub each : ℕ → (ℕ → Bool) → Bool

@@ -10,7 +10,8 @@ use lib.ListN.{length}
 use Rattle.meaning.specs.declared.Label.{Label}
 use Rattle.meaning.specs.Notation.{Hook, nothing, from}
 use Rattle.meaning.specs.Picks.{Asked, Edge, Hung, Pick, Returned, Evidence, at}
-use Rattle.meaning.proofs.Decide.{Decides, holds, decides-as, or-not, le-decides, then-decides, lt-decides, eq-decides, and-decides, not-decides, each, each-decides, some, some-decides}
+use Rattle.meaning.proofs.Decide.{Decides, holds, decides-as, or-not, le-decides, both-decides, lt-decides, eq-decides, and-decides, not-decides, each, each-decides, some, some-decides}
+use Rattle.meaning.proofs.DecideNesting.{insideB, inside-decides}
 use Rattle.meaning.proofs.DayLaws.{Fit}
 use Rattle.meaning.proofs.PickLaws.{same-pick}
 
@@ -63,11 +64,12 @@ choose-decides c (suc n) {G} {f} d = decides-as to back (some-decides (c 0) (λ 
 
 -- The test of an edge.
 unfoldable pub edgeB : Label → Label → Bool
-edgeB mine above = ltb (above .start) (mine .start) && ltb (mine .end) (above .end)
+edgeB mine above = insideB mine above
 
+-- It decides the edge's relation.
 pub edge-decides : (mine above : Label) → Decides (Edge mine above) (edgeB mine above)
 unfolding edgeB
-edge-decides mine above = decides-as (λ h. record { after = h .0; before = h .1 }) (λ h. (h .after, h .before)) (and-decides (lt-decides (above .start) (mine .start)) (lt-decides (mine .end) (above .end)))
+edge-decides mine above = inside-decides mine above
 
 module _ (a : Asked) where
   unfoldable pub hungB : List ℕ → ℕ → Hook → Bool
@@ -117,7 +119,7 @@ module _ (a : Asked) where
         Passes w = F (at w) × ((s : ℕ) → s < a .steps → Hung a (at w) s (a .hook s))
 
         both : (w : List ℕ) → Decides (Passes w) (elim (f w) [ true ↦ pickB w | false ↦ false ])
-        both w = then-decides (d w) (pick-decides w)
+        both w = both-decides (d w) (pick-decides w)
 
         to : (w : List ℕ) × Within (a .count) (a .steps) w × Passes w → (p : ℕ → ℕ) × Pick a p × F p
         to (w, h, g) = (at w, record { within = h .below; hung = g .1 }, g .0)

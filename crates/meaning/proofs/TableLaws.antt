@@ -37,7 +37,8 @@ given-applies end n g = g
 given-applies (row m reason rest) n (inl g) = inl g
 given-applies (row m reason rest) n (inr g) = inr (given-applies rest n (g .1))
 
-above : (t : Table) (k : ℕ) → Rising k t → (n : ℕ) → Applies t n → k < n
+-- What applies has a number above k.
+pub above : (t : Table) (k : ℕ) → Rising k t → (n : ℕ) → Applies t n → k < n
 above end k r n a = absurd a
 above (row m reason rest) k r n (inl a) = omega (arith, r .0, a .1)
 above (row m reason rest) k r n (inr a) = omega (arith, r .0, above rest m (r .1) n a)
@@ -54,6 +55,9 @@ given-least (row j reason rest) k r n m (inr g) (inr a) = given-least rest j (r 
 pub call-rising : (b text : List ℕ) → Rising 0 (callTable b text)
 call-rising b text = (omega arith, (omega arith, (omega arith, (omega arith, (omega arith, (omega arith, (omega arith, (omega arith, (omega arith, (omega arith, tt))))))))))
 
+pub check-rising : (b : List ℕ) → Rising 0 (checkTable b)
+check-rising b = (omega arith, (omega arith, (omega arith, (omega arith, (omega arith, (omega arith, tt))))))
+
 -- What the index's rows say goes before what stands behind them: a broken index gives its own number, whatever the question.
 pub index-first : (b : List ℕ) (rest : Table) (n : ℕ) → Given (checkTable b) n → Given (indexRows b rest) n
 index-first b rest n (inl g) = inl g
@@ -68,9 +72,18 @@ index-first b rest n (inr (no₁, inr (no₂, inr (no₃, inr (no₄, inr (no₅
 pub clear-lawful : (b : List ℕ) (text : List ℕ) → Clear (callTable b text) → Lawful b
 clear-lawful b text (no₁, (no₂, (no₃, (no₄, (no₅, (no₆, rest)))))) = (no₁, (no₂, (no₃, (no₄, (no₅, (no₆, tt))))))
 
+-- A lawful index with a question that no further row is about is refused for nothing.
+pub lawful-clear : (b : List ℕ) (text : List ℕ) → Lawful b → Clear (questionRows b text) → Clear (callTable b text)
+lawful-clear b text (no₁, (no₂, (no₃, (no₄, (no₅, (no₆, rest)))))) q = (no₁, (no₂, (no₃, (no₄, (no₅, (no₆, q))))))
+
 -- The check call's promise fixes its result.
 pub checked-fixed : (b : List ℕ) (m n : ℕ) → Checked b m → Checked b n → m ≡ n
 checked-fixed b m n (lawful c) (lawful d) = refl
 checked-fixed b m n (lawful c) (refused g) = absurd (clear-not-given (checkTable b) n c g)
 checked-fixed b m n (refused g) (lawful c) = absurd (clear-not-given (checkTable b) m c g)
 checked-fixed b m n (refused g) (refused h) = given-one (checkTable b) m n g h
+
+-- An index to which the check call gives 0 is lawful.
+pub checked-lawful : (b : List ℕ) (n : ℕ) → n ≡ 0 → Checked b n → Lawful b
+checked-lawful b n e (lawful c) = c
+checked-lawful b n e (refused g) = absurd (omega (arith, above (checkTable b) 0 (check-rising b) n (given-applies (checkTable b) n g)))

@@ -1,4 +1,12 @@
 -- Tests that antt computes, each with a proof that it decides what it is about.
+pub mod Among
+pub mod Places
+pub mod Nesting
+pub mod Lists
+pub mod Names
+pub mod Day
+pub mod Notation
+pub mod Picks
 use Prim.Native.Nat.{ℕ, zero, suc, _+_, _≤_, _<_}
 use native.Mathlib.Nat.{eq-or-lt-of-le, le-of-suc-le-suc}
 use native.Mathlib.Omega.{arith}

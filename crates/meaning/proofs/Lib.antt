@@ -1,26 +1,5 @@
--- The laws of the definitions in `specs/`. No code is involved.
+-- No code is involved here: the laws of the definitions in `specs/`, tests that are proved to decide what these say, and the marked cases
+-- of document 01, which rest on the tests.
+pub mod Laws
 pub mod Decide
-pub mod DecideAmong
-pub mod TableLaws
-pub mod LabelLaws
-pub mod NameLaws
-pub mod SameLaws
-pub mod NotationLaws
-pub mod StepLaws
-pub mod DayLaws
-pub mod PickLaws
-pub mod DecideNotation
-pub mod DecideTable
-pub mod DecideNesting
-pub mod DecideLists
-pub mod DecideNames
-pub mod DecideDay
-pub mod DecidePicks
-pub mod EvidenceLaws
-pub mod RecordLaws
-pub mod PageLaws
-pub mod WalkLaws
-pub mod PromiseLaws
-pub mod SmallDay
 pub mod Cases
-pub mod Stars

@@ -10,7 +10,7 @@ use mathlib.Core.List.{List, [], _∷_, _++_}
 use Rattle.meaning.specs.declared.Label.{Label}
 use Rattle.meaning.specs.Labels.{Lists, Place, labelOf, Holds}
 use Rattle.meaning.proofs.Decide.{Decides, decides-as}
-use Rattle.meaning.proofs.DecideAmong.{Among, among, among-decides, among-left, among-right, among-split}
+use Rattle.meaning.proofs.Decide.Among.{Among, among, among-decides, among-left, among-right, among-split}
 
 -- An entry of the table: the list, the list position, the start and the end. antt computes the four when it makes the entry.
 pub data Entry : Type 0 where

@@ -12,7 +12,7 @@ use borrow.Author.Tests.{leb-true}
 use Rattle.meaning.specs.Limits.{mostName}
 use Rattle.meaning.specs.Names.{initial, allFurther, isName, Name, filled, Sooner, same}
 use Rattle.meaning.proofs.Decide.{true-decides, Decides, holds, fails, decides-as, or-not, lt-decides, eq-decides, each, each-decides, some, some-decides, both-decides}
-use Rattle.meaning.proofs.SameLaws.{same-decides}
+use Rattle.meaning.proofs.Laws.Same.{same-decides}
 
 -- Where two tests pass together, the second passes.
 and-right : (a b : Bool) → (a && b) ≡ true → b ≡ true

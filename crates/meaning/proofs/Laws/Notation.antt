@@ -6,7 +6,7 @@ use native.Mathlib.Omega.{arith}
 use lib.ListN.{getD, drop}
 use Rattle.meaning.specs.Names.{initial, further}
 use Rattle.meaning.specs.Notation.{Path, path, After, finish, bracket, next, write, writeAfter, Named, NamedAfter, Follows}
-use Rattle.meaning.proofs.NameLaws.{NoFurther, name-same}
+use Rattle.meaning.proofs.Laws.Name.{NoFurther, name-same}
 
 -- A path ends before this text: it is empty, or it goes on with `]`.
 abbrev pub Stops : List ℕ → Type 0

@@ -3,8 +3,9 @@ use Prim.Native.Nat.{ℕ}
 use mathlib.Core.Bool.{Bool, true, false}
 use mathlib.Core.List.{List, [], _∷_, _++_}
 use Rattle.meaning.specs.Notation.{Path, path, After, finish, bracket, next}
-use Rattle.meaning.proofs.SmallDay.{bytes, label, row, head, smallDay}
-use Rattle.meaning.proofs.Cases.{Room, ample, just, Case, ask, refuse, empty, All, allB, all-right}
+use Rattle.meaning.proofs.Cases.SmallDay.{bytes, label, row, head, smallDay}
+use Rattle.meaning.proofs.Cases.{Room, ample, just, Case, ask, check, empty, All}
+use Rattle.meaning.proofs.Cases.Test.{allB, all-right}
 
 -- The steps of the questions' trees, each before what follows its name.
 abbrev call : After → Path
@@ -51,11 +52,11 @@ stars =
     ∷
     empty (0 ∷ 0 ∷ 1 ∷ 0 ∷ [])
     ∷
-    refuse (head 1 ++ row "call" 28 1 ++ label 4 4) 5
+    check (head 1 ++ row "call" 28 1 ++ label 4 4) 5
     ∷
-    refuse (head 1 ++ row "call" 28 2 ++ label 1 5 ++ label 3 8) 6
+    check (head 1 ++ row "call" 28 2 ++ label 1 5 ++ label 3 8) 6
     ∷
-    refuse (head 1 ++ row "call" 28 2 ++ label 1 5 ++ label 5 8) 6
+    check (head 1 ++ row "call" 28 2 ++ label 1 5 ++ label 5 8) 6
     ∷
     []
 

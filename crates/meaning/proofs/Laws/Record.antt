@@ -10,8 +10,8 @@ use lib.ListN.{length, getD}
 use Rattle.meaning.specs.Picks.{Asked, Returned}
 use Rattle.meaning.specs.Pages.{In, Ascending, Records}
 use Rattle.meaning.proofs.Decide.{Decides, holds, fails}
-use Rattle.meaning.proofs.DayLaws.{Fit}
-use Rattle.meaning.proofs.DecidePicks.{returnedB, returned-decides}
+use Rattle.meaning.proofs.Laws.Day.{Fit}
+use Rattle.meaning.proofs.Decide.Picks.{returnedB, returned-decides}
 
 -- Two lists that ascend and hold the same numbers are equal.
 pub ascending-one : (xs ys : List ℕ) → Ascending xs → Ascending ys → ((i : ℕ) → In i xs → In i ys) → ((i : ℕ) → In i ys → In i xs) → xs ≡ ys

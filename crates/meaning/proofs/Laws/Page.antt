@@ -11,7 +11,7 @@ use borrow.Author.Tests.{ltb-true, lt-ltb, le-ltb}
 use Rattle.meaning.specs.declared.Page.{Page}
 use Rattle.meaning.specs.Picks.{Asked}
 use Rattle.meaning.specs.Pages.{Ascending, In, Records, Rows, none, row, Paged, Refused}
-use Rattle.meaning.proofs.RecordLaws.{records-one, holds-at}
+use Rattle.meaning.proofs.Laws.Record.{records-one, holds-at}
 
 -- A record's row is one: two rows of one record are equal.
 abbrev pub One : (ℕ → List ℕ → Type 0) → Type 0

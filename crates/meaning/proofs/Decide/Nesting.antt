@@ -9,8 +9,8 @@ use lib.Dec.{ltb}
 use Rattle.meaning.specs.declared.Label.{Label}
 use Rattle.meaning.specs.Labels.{Inside, Lists, Place, labelOf, Holds, Nested}
 use Rattle.meaning.proofs.Decide.{Decides, decides-as, lt-decides, both-decides}
-use Rattle.meaning.proofs.DecideAmong.{Among, among, among-decides, memberB, member-decides, keep, kept, keeps}
-use Rattle.meaning.proofs.DecideTable.{Entry, labelIn, entryOf, table, table-found, table-find}
+use Rattle.meaning.proofs.Decide.Among.{Among, among, among-decides, memberB, member-decides, keep, kept, keeps}
+use Rattle.meaning.proofs.Decide.Places.{Entry, labelIn, entryOf, table, table-found, table-find}
 
 -- a lies inside b; the ends wait for the starts.
 abbrev pub insideB : Label → Label → Bool

@@ -1,5 +1,5 @@
 -- The promise of each public call fixes its outcome: two outcomes that satisfy it are equal, in the result and in the whole buffer, on
--- refusal too. (That of the check call is `checked-fixed` of TableLaws.)
+-- refusal too. (That of the check call is `checked-fixed` of Laws.Table.)
 use Prim.Native.Nat.{ℕ, _≤_, _<_}
 use native.Mathlib.Omega.{arith}
 use mathlib.Core.Path.{_≡_, sym, subst, _∙_}
@@ -15,12 +15,12 @@ use Rattle.meaning.specs.Pages.{In, Paged, Refused, TooMany}
 use Rattle.meaning.specs.Refusals.{Lawful, callTable}
 use Rattle.meaning.specs.Promises.{Outcome, refused, page, Answered, Shown}
 use Rattle.meaning.proofs.Decide.{or-not, le-decides}
-use Rattle.meaning.proofs.NotationLaws.{one-tree}
-use Rattle.meaning.proofs.TableLaws.{given-one, clear-not-given}
-use Rattle.meaning.proofs.DayLaws.{Fit, lawful-fit, list-small}
-use Rattle.meaning.proofs.EvidenceLaws.{evidence-one}
-use Rattle.meaning.proofs.RecordLaws.{ascending-few}
-use Rattle.meaning.proofs.PageLaws.{One, paged-fixed, refused-fixed}
+use Rattle.meaning.proofs.Laws.Notation.{one-tree}
+use Rattle.meaning.proofs.Laws.Table.{given-one, clear-not-given}
+use Rattle.meaning.proofs.Laws.Day.{Fit, lawful-fit, list-small}
+use Rattle.meaning.proofs.Laws.Evidence.{evidence-one}
+use Rattle.meaning.proofs.Laws.Record.{ascending-few}
+use Rattle.meaning.proofs.Laws.Page.{One, paged-fixed, refused-fixed}
 
 -- Where a record's row is one, a call's promise fixes its outcome.
 outcome-fixed : {Row : Asked → ℕ → List ℕ → Type 0} {room : Asked → ℕ → ℕ} {b text entry exit exit′ : List ℕ} {place : ℕ} {r r′ : Page} → ((a : Asked) → One (Row a))

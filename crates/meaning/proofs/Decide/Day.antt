@@ -14,11 +14,11 @@ use Rattle.meaning.specs.Day.{tags, version, rowAt, nameField, offset, l
 use Rattle.meaning.specs.Refusals.{Table, end, row, Given, Clear, indexRows, checkTable}
 use Rattle.meaning.specs.Promises.{Checked, lawful, refused}
 use Rattle.meaning.proofs.Decide.{Decides, holds, fails, decides-as, not-decides, lt-decides, eq-decides, each, some, some-decides, both-decides, either-decides}
-use Rattle.meaning.proofs.DecideAmong.{among, keep}
-use Rattle.meaning.proofs.DecideNames.{fillsB, fieldB, field-decides, soonerAt, soonerB, sooner-decides}
-use Rattle.meaning.proofs.DecideTable.{entriesOf, entriesTo, table, pairs}
-use Rattle.meaning.proofs.DecideNesting.{around, heads}
-use Rattle.meaning.proofs.DecideLists.{unorderedB, unordered-decides, tangledB, tangled-decides}
+use Rattle.meaning.proofs.Decide.Among.{among, keep}
+use Rattle.meaning.proofs.Decide.Names.{fillsB, fieldB, field-decides, soonerAt, soonerB, sooner-decides}
+use Rattle.meaning.proofs.Decide.Places.{entriesOf, entriesTo, table, pairs}
+use Rattle.meaning.proofs.Decide.Nesting.{around, heads}
+use Rattle.meaning.proofs.Decide.Lists.{unorderedB, unordered-decides, tangledB, tangled-decides}
 
 -- Row r comes after the row before, if there is one.
 unfoldable pub orderB : List ℕ → ℕ → Bool

@@ -10,9 +10,9 @@ use Rattle.meaning.specs.declared.Label.{Label}
 use Rattle.meaning.specs.Limits.{mostNested}
 use Rattle.meaning.specs.Labels.{Lists, Place, Backward, Descent, Unordered, Share, Cross, Clash, Tangled}
 use Rattle.meaning.proofs.Decide.{Decides, decides-as, not-decides, le-decides, lt-decides, eq-decides, both-decides, either-decides}
-use Rattle.meaning.proofs.DecideAmong.{among, memberB}
-use Rattle.meaning.proofs.DecideTable.{Entry, placeIn, labelIn, table, At, at-decides, pairs, pairs-decides}
-use Rattle.meaning.proofs.DecideNesting.{heads, nested-decides}
+use Rattle.meaning.proofs.Decide.Among.{among, memberB}
+use Rattle.meaning.proofs.Decide.Places.{Entry, placeIn, labelIn, table, At, at-decides, pairs, pairs-decides}
+use Rattle.meaning.proofs.Decide.Nesting.{heads, nested-decides}
 
 -- Refusal 5, its first part, of one entry: start ≥ end.
 abbrev pub backwardB : Entry → Bool

@@ -14,8 +14,8 @@ use Rattle.meaning.specs.Notation.{Path, from}
 use Rattle.meaning.specs.Picks.{Asked, asked, stepAt}
 use Rattle.meaning.specs.Refusals.{Lawful}
 use Rattle.meaning.proofs.Decide.{or-not, eq-decides}
-use Rattle.meaning.proofs.LabelLaws.{lawful-lists}
-use Rattle.meaning.proofs.StepLaws.{returned-lt, hook-upward}
+use Rattle.meaning.proofs.Laws.Label.{lawful-lists}
+use Rattle.meaning.proofs.Laws.Step.{returned-lt, hook-upward}
 
 -- The list of row r.
 abbrev pub rowList : List ℕ → ℕ → Body

@@ -9,9 +9,9 @@ use lib.ListN.{length}
 use lib.Seq.{ext-getD}
 use Rattle.meaning.specs.Picks.{Asked, Pick, Returned, Evidence, at}
 use Rattle.meaning.proofs.Decide.{Least, least-of}
-use Rattle.meaning.proofs.DayLaws.{Fit}
-use Rattle.meaning.proofs.PickLaws.{earlier, earlier-pick, same-pick}
-use Rattle.meaning.proofs.DecidePicks.{rowOf, row-long, row-at, through-decides}
+use Rattle.meaning.proofs.Laws.Day.{Fit}
+use Rattle.meaning.proofs.Laws.Pick.{earlier, earlier-pick, same-pick}
+use Rattle.meaning.proofs.Decide.Picks.{rowOf, row-long, row-at, through-decides}
 
 -- Two evidence rows for one record are equal, on any day: each is nowhere later than the other.
 pub evidence-one : (a : Asked) (i : ℕ) (v w : List ℕ) → Evidence a i v → Evidence a i w → v ≡ w

@@ -11,9 +11,9 @@ use Rattle.meaning.specs.declared.Label.{Label}
 use Rattle.meaning.specs.Notation.{Hook, nothing, from}
 use Rattle.meaning.specs.Picks.{Asked, Edge, Hung, Pick, Returned, Evidence, at}
 use Rattle.meaning.proofs.Decide.{Decides, holds, decides-as, or-not, le-decides, both-decides, lt-decides, eq-decides, and-decides, not-decides, each, each-decides, some, some-decides}
-use Rattle.meaning.proofs.DecideNesting.{insideB, inside-decides}
-use Rattle.meaning.proofs.DayLaws.{Fit}
-use Rattle.meaning.proofs.PickLaws.{same-pick}
+use Rattle.meaning.proofs.Decide.Nesting.{insideB, inside-decides}
+use Rattle.meaning.proofs.Laws.Day.{Fit}
+use Rattle.meaning.proofs.Laws.Pick.{same-pick}
 
 -- The first n values of a function.
 abbrev pub rowOf : (ℕ → ℕ) → ℕ → List ℕ

@@ -11,8 +11,8 @@ use borrow.Author.Tests.{ltb-false}
 use Rattle.meaning.specs.declared.Page.{Page}
 use Rattle.meaning.specs.Picks.{Asked}
 use Rattle.meaning.specs.Pages.{Ascending, In, Records, Paged}
-use Rattle.meaning.proofs.RecordLaws.{records-one, holds-at}
-use Rattle.meaning.proofs.PageLaws.{more-full}
+use Rattle.meaning.proofs.Laws.Record.{records-one, holds-at}
+use Rattle.meaning.proofs.Laws.Page.{more-full}
 
 -- A walk from a place: n pages, each with room for at least one row and each going on from the next place of the page before, have given
 -- these records, and the last page said whether a further record remains.

@@ -1,0 +1,37 @@
+-- The rows of document 01's table about an index that are not marked, and its words on lawful numbers: they hold the definitions of the
+-- day to the paper as the marked ones do.
+use Prim.Native.Nat.{ℕ, zero, suc, _+_, _-_}
+use mathlib.Core.List.{List, [], _∷_, _++_}
+use Rattle.meaning.proofs.Cases.{Case, check, All}
+use Rattle.meaning.proofs.Cases.SmallDay.{bytes, label, row, head}
+use Rattle.meaning.proofs.Cases.Test.{allB, all-right}
+
+-- n labels from start s on, of which each but the first lies inside the one before, the first of them s:e.
+unfoldable pub nest : ℕ → ℕ → ℕ → List ℕ
+nest zero s e = []
+nest (suc n) s e = label s e ++ nest n (s + 1) (e - 1)
+
+-- The bytes 0 0 2 0, the bytes 1 0 1 0, 3 bytes; 64 nested and 65 nested; the numbers 0 and 4,294,967,295; a list without labels.
+unfoldable pub others : List Case
+unfolding bytes nest
+others =
+    check (0 ∷ 0 ∷ 2 ∷ 0 ∷ []) 2
+    ∷
+    check (1 ∷ 0 ∷ 1 ∷ 0 ∷ []) 3
+    ∷
+    check (0 ∷ 0 ∷ 1 ∷ []) 1
+    ∷
+    check (head 1 ++ row "call" 28 64 ++ nest 64 1 200) 0
+    ∷
+    check (head 1 ++ row "call" 28 65 ++ nest 65 1 200) 6
+    ∷
+    check (head 1 ++ row "call" 28 1 ++ label 0 4_294_967_295) 0
+    ∷
+    check (head 1 ++ row "call" 28 0) 0
+    ∷
+    []
+
+-- Each of them is right.
+pub others-right : All others
+unfolding others allB
+others-right = all-right others tt

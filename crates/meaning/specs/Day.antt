@@ -92,7 +92,7 @@ OtherVersion b = version b ≢ 1
 
 -- Refusal 3: T over 256, fewer than 4 + 24 × T bytes, any row's name, order or offset is wrong, or N over 1,048,576.
 abbrev pub WrongContents : List ℕ → Type 0
-WrongContents b = (mostTags < tags b) ⊎ ((length b < rowAt (tags b)) ⊎ (((r : ℕ) × (r < tags b) × (RowRight b r → ⊥)) ⊎ (mostLabels < total b)))
+WrongContents b = (mostTags < tags b) ⊎ (length b < rowAt (tags b)) ⊎ ((r : ℕ) × (r < tags b) × (RowRight b r → ⊥)) ⊎ (mostLabels < total b)
 
 -- Refusal 4: the length is not 4 + 24 × T + 8 × N.
 abbrev pub WrongLength : List ℕ → Type 0

@@ -53,7 +53,7 @@ pub record LawfulLists (t : Lists) : Type 0 where
   pub ascending : (r i j : ℕ) → r < t .many → i < j → j < t .count r → t .label r i .start < t .label r j .start
   pub different : (x y : Place) → Holds t x → Holds t y → x ≢ y → Different (labelOf t x) (labelOf t y)
   pub nested-or-apart : (x y : Place) → Holds t x → Holds t y → x ≢ y
-      → Inside (labelOf t x) (labelOf t y) ⊎ (Inside (labelOf t y) (labelOf t x) ⊎ Apart (labelOf t x) (labelOf t y))
+      → Inside (labelOf t x) (labelOf t y) ⊎ Inside (labelOf t y) (labelOf t x) ⊎ Apart (labelOf t x) (labelOf t y)
   pub shallow : (c : ℕ → Place) → Nested t (suc mostNested) c → ⊥
 
 -- Refusal 5, its first part: a label with start ≥ end.
@@ -78,7 +78,7 @@ Unordered t = Backward t ⊎ Descent t
 
 -- Two labels share a number.
 abbrev pub Share : Label → Label → Type 0
-Share a b = (a .start ≡ b .start) ⊎ ((a .start ≡ b .end) ⊎ ((a .end ≡ b .start) ⊎ (a .end ≡ b .end)))
+Share a b = (a .start ≡ b .start) ⊎ (a .start ≡ b .end) ⊎ (a .end ≡ b .start) ⊎ (a .end ≡ b .end)
 
 -- Two labels cross: the second starts within the first and ends after it.
 pub record Cross (a b : Label) : Type 0 where

@@ -20,10 +20,14 @@ unfoldable pub allFurther : List ℕ → Bool
 allFurther [] = true
 allFurther (c ∷ cs) = further c && allFurther cs
 
+-- It has at most 16 characters.
+unfoldable pub short : List ℕ → Bool
+short n = leb (length n) mostName
+
 -- A name has 1 to 16 characters, of which the first and the others are as above.
 unfoldable pub isName : List ℕ → Bool
 isName [] = false
-isName (c ∷ cs) = initial c && (allFurther cs && leb (length (c ∷ cs)) mostName)
+isName (c ∷ cs) = initial c && (allFurther cs && short (c ∷ cs))
 
 -- The list is a name.
 abbrev pub Name : List ℕ → Type 0

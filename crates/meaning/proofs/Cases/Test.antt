@@ -12,7 +12,7 @@ use mir.Facts.{and-yes}
 use Rattle.meaning.specs.declared.Page.{Page}
 use Rattle.meaning.specs.Limits.{mostText, mostSteps, mostDepth}
 use Rattle.meaning.specs.Bytes.{u32At}
-use Rattle.meaning.specs.Names.{initial, further, allFurther, isName, same}
+use Rattle.meaning.specs.Names.{initial, further, allFurther, short, isName, same}
 use Rattle.meaning.specs.Day.{labels, total, labelAt, listAmong}
 use Rattle.meaning.specs.Notation.{Path, write, Named, Follows, steps, depth, list, lastStep, TooLong, NotFollowing, TooLarge}
 use Rattle.meaning.specs.Picks.{Asked, Evidence, asked}
@@ -194,7 +194,7 @@ right (empty b) t =
 
 -- The test of a table. Whoever unfolds it unfolds all that it computes with.
 unfoldable pub allB : List Case → Bool
-unfolding checkOf u32At labels labelAt listAmong isName initial further allFurther same write steps depth list lastStep asked each some choose edgeB hungB pickB somePick returnedB undercutB evidenceB filtered recordsOf namedB eachB listedB writtenB askB rightB
+unfolding checkOf u32At labels labelAt listAmong initial further allFurther short isName same write steps depth list lastStep asked each some choose edgeB hungB pickB somePick returnedB undercutB evidenceB filtered recordsOf namedB eachB listedB writtenB askB rightB
 allB [] = true
 allB (c ∷ cs) = rightB c && allB cs
 

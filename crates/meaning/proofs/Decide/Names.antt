@@ -3,27 +3,16 @@ use Prim.Native.Nat.{ℕ, suc, _-_, _≤_, _<_}
 use native.Mathlib.Omega.{arith}
 use mathlib.Core.Path.{_≡_, refl, sym, ap, subst, _∙_}
 use mathlib.Core.Logic.{⊎-elim}
-use mathlib.Core.Bool.{Bool, true, false, _&&_, false≢true}
+use mathlib.Core.Bool.{Bool, true, false}
 use mathlib.Core.List.{List, [], _∷_}
-use lib.Dec.{leb, ltb, eqb}
+use lib.Dec.{ltb, eqb}
 use lib.ListN.{length, take, getD, replicate, List·getD-eq-default}
 use lib.Seq.{take-append-seam}
-use borrow.Author.Tests.{leb-true}
 use Rattle.meaning.specs.Limits.{mostName}
-use Rattle.meaning.specs.Names.{initial, allFurther, isName, Name, filled, Sooner, same}
+use Rattle.meaning.specs.Names.{isName, Name, filled, Sooner, same}
 use Rattle.meaning.proofs.Decide.{true-decides, Decides, holds, fails, decides-as, or-not, lt-decides, eq-decides, each, each-decides, some, some-decides, both-decides}
+use Rattle.meaning.proofs.Laws.Name.{name-short}
 use Rattle.meaning.proofs.Laws.Same.{same-decides}
-
--- Where two tests pass together, the second passes.
-and-right : (a b : Bool) → (a && b) ≡ true → b ≡ true
-and-right true b e = e
-and-right false b e = absurd (false≢true e)
-
--- A name has at most 16 characters.
-pub name-short : (n : List ℕ) → Name n → length n ≤ mostName
-unfolding isName
-name-short [] e = omega arith
-name-short (c ∷ cs) e = leb-true (length (c ∷ cs)) mostName (and-right (allFurther cs) (leb (length (c ∷ cs)) mostName) (and-right (initial c) (allFurther cs && leb (length (c ∷ cs)) mostName) e))
 
 -- A name, filled up, stands in the field.
 pub record NameIn (f : List ℕ) : Type 0 where

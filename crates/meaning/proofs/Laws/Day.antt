@@ -9,12 +9,12 @@ use mathlib.Core.List.{List}
 use Rattle.meaning.specs.declared.Label.{Label}
 use Rattle.meaning.specs.Labels.{Inside, Apart, Lists, Place, labelOf, Holds, LawfulLists}
 use Rattle.meaning.specs.Names.{filled, same}
-use Rattle.meaning.specs.Day.{tags, offset, count, labels, total, labelAt, listsOf, nameField, Body, listAmong, listOf}
+use Rattle.meaning.specs.Day.{tags, offset, count, labels, total, labelAt, listsOf, nameField, Body, listAmong, listOf, TooShort, OtherVersion, WrongContents, WrongLength}
 use Rattle.meaning.specs.Notation.{Path, from}
 use Rattle.meaning.specs.Picks.{Asked, asked, stepAt}
 use Rattle.meaning.specs.Refusals.{Lawful}
 use Rattle.meaning.proofs.Decide.{or-not, eq-decides}
-use Rattle.meaning.proofs.Laws.Label.{lawful-lists}
+use Rattle.meaning.proofs.Laws.Label.{lawful-lists, lawful-ordered, lawful-untangled}
 use Rattle.meaning.proofs.Laws.Step.{returned-lt, hook-upward}
 
 -- The list of row r.
@@ -104,11 +104,18 @@ module _ (b : List ℕ) where
             ⊎-elim (λ e. inl (sym ex ∙ ap (labelOf (listsOf b)) e ∙ ey))
             (λ n. inr (subst₂ (λ (z w : Label). Inside z w ⊎ Inside w z ⊎ Apart z w) ex ey (law .nested-or-apart x y hx hy n))) (same-place x y)
 
+-- An index is lawful exactly if refusals 1 to 4 do not apply and its lists are lawful.
+pub lawful-index : (b : List ℕ) → Lawful b → LawfulLists (listsOf b)
+lawful-index b (no₁, (no₂, (no₃, (no₄, (no₅, (no₆, rest)))))) = lawful-lists (listsOf b) no₅ no₆
+
+pub index-lawful : (b : List ℕ) → (TooShort b → ⊥) → (OtherVersion b → ⊥) → (WrongContents b → ⊥) → (WrongLength b → ⊥) → LawfulLists (listsOf b) → Lawful b
+index-lawful b no₁ no₂ no₃ no₄ law = (no₁, (no₂, (no₃, (no₄, (lawful-ordered (listsOf b) law, (lawful-untangled (listsOf b) law, tt))))))
+
 -- On a lawful day every question is fit.
 pub lawful-fit : (b : List ℕ) (p : Path) → Lawful b → Fit (asked b p)
 unfolding asked
-lawful-fit b p (no₁, (no₂, (no₃, (no₄, (no₅, (no₆, rest)))))) =
-    let law = lawful-lists (listsOf b) no₅ no₆ in
+lawful-fit b p lawful =
+    let law = lawful-index b lawful in
     record {
       returned-lt = returned-lt p;
       upward = hook-upward p;

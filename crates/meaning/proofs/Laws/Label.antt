@@ -20,6 +20,34 @@ inside-proper a h = omega (arith, h .after)
 pub inside-further : (a b c : Label) → Inside a b → Inside b c → Inside a c
 inside-further a b c h k = record { after = omega (arith, h .after, k .after); before = omega (arith, h .before, k .before) }
 
+-- In lawful lists refusals 5 and 6 find nothing.
+module _ (t : Lists) (l : LawfulLists t) where
+  pub lawful-ordered : Unordered t → ⊥
+  lawful-ordered (inl w) = omega (arith, l .ordered (w .place) (w .holds), w .wrong)
+  lawful-ordered (inr w) = omega (arith, l .ascending (w .list) (w .i) (w .j) (w .list-lt) (w .i-lt) (w .j-lt), w .wrong)
+
+  pub lawful-untangled : Tangled t → ⊥
+  lawful-untangled (inr c) = l .shallow (c .0) (c .1)
+  lawful-untangled (inl w) = ⊎-elim shared crossed (w .wrong)
+    where
+      d : Different (labelOf t (w .one)) (labelOf t (w .other))
+      d = l .different (w .one) (w .other) (w .holds-one) (w .holds-other) (w .two)
+
+      shared : Share (labelOf t (w .one)) (labelOf t (w .other)) → ⊥
+      shared (inl e) = d .starts e
+      shared (inr (inl e)) = d .start-end e
+      shared (inr (inr (inl e))) = d .end-start e
+      shared (inr (inr (inr e))) = d .ends e
+
+      crossed : Cross (labelOf t (w .one)) (labelOf t (w .other)) → ⊥
+      crossed c = sorted (l .nested-or-apart (w .one) (w .other) (w .holds-one) (w .holds-other) (w .two))
+        where
+          sorted : Inside (labelOf t (w .one)) (labelOf t (w .other)) ⊎ Inside (labelOf t (w .other)) (labelOf t (w .one)) ⊎ Apart (labelOf t (w .one)) (labelOf t (w .other)) → ⊥
+          sorted (inl i) = omega (arith, i .after, c .first)
+          sorted (inr (inl i)) = omega (arith, i .before, c .past)
+          sorted (inr (inr (inl a))) = omega (arith, a, c .within)
+          sorted (inr (inr (inr a))) = omega (arith, a, c .first, c .within, c .past, l .ordered (w .other) (w .holds-other))
+
 -- The relation of two ordered labels with four different numbers that do not cross, where the first starts first.
 sort : (a b : Label) → a .start < a .end → b .start < b .end → Different a b → (Cross a b → ⊥) → a .start < b .start → Inside b a ⊎ Apart a b
 sort a b oa ob d uncrossed l = ⊎-elim within (λ n. inr (inl (apart n))) (or-not (lt-decides (b .start) (a .end)))
@@ -72,31 +100,3 @@ module _ (t : Lists) (five : Unordered t → ⊥) (six : Tangled t → ⊥) wher
   -- Lists for which refusals 5 and 6 find nothing are lawful.
   pub lawful-lists : LawfulLists t
   lawful-lists = record { ordered = ordered; ascending = ascending; different = different; nested-or-apart = nested-or-apart; shallow = λ c n. six (inr (c, n)) }
-
--- In lawful lists refusals 5 and 6 find nothing.
-module _ (t : Lists) (l : LawfulLists t) where
-  pub lawful-ordered : Unordered t → ⊥
-  lawful-ordered (inl w) = omega (arith, l .ordered (w .place) (w .holds), w .wrong)
-  lawful-ordered (inr w) = omega (arith, l .ascending (w .list) (w .i) (w .j) (w .list-lt) (w .i-lt) (w .j-lt), w .wrong)
-
-  pub lawful-untangled : Tangled t → ⊥
-  lawful-untangled (inr c) = l .shallow (c .0) (c .1)
-  lawful-untangled (inl w) = ⊎-elim shared crossed (w .wrong)
-    where
-      d : Different (labelOf t (w .one)) (labelOf t (w .other))
-      d = l .different (w .one) (w .other) (w .holds-one) (w .holds-other) (w .two)
-
-      shared : Share (labelOf t (w .one)) (labelOf t (w .other)) → ⊥
-      shared (inl e) = d .starts e
-      shared (inr (inl e)) = d .start-end e
-      shared (inr (inr (inl e))) = d .end-start e
-      shared (inr (inr (inr e))) = d .ends e
-
-      crossed : Cross (labelOf t (w .one)) (labelOf t (w .other)) → ⊥
-      crossed c = sorted (l .nested-or-apart (w .one) (w .other) (w .holds-one) (w .holds-other) (w .two))
-        where
-          sorted : Inside (labelOf t (w .one)) (labelOf t (w .other)) ⊎ Inside (labelOf t (w .other)) (labelOf t (w .one)) ⊎ Apart (labelOf t (w .one)) (labelOf t (w .other)) → ⊥
-          sorted (inl i) = omega (arith, i .after, c .first)
-          sorted (inr (inl i)) = omega (arith, i .before, c .past)
-          sorted (inr (inr (inl a))) = omega (arith, a, c .within)
-          sorted (inr (inr (inr a))) = omega (arith, a, c .first, c .within, c .past, l .ordered (w .other) (w .holds-other))

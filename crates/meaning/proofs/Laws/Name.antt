@@ -1,12 +1,12 @@
 -- Names in a text: where a name ends is seen from what follows it, so that a text begins with one name only.
-use Prim.Native.Nat.{ℕ}
+use Prim.Native.Nat.{ℕ, _≤_}
 use mathlib.Core.Path.{_≡_, refl, sym, _∙_, subst}
 use mathlib.Core.Bool.{true, false, _&&_, true≢false, false≢true, and-eq-true-iff}
 use mathlib.Core.List.{List, [], _∷_, _++_}
-use lib.Dec.{leb}
 use lib.ListN.{length}
+use borrow.Author.Tests.{leb-true}
 use Rattle.meaning.specs.Limits.{mostName}
-use Rattle.meaning.specs.Names.{initial, further, allFurther, isName, Name}
+use Rattle.meaning.specs.Names.{initial, further, allFurther, short, isName, Name}
 
 -- The text does not go on with a character of a name: it is at its end, or its first byte may not stand in a name.
 abbrev pub NoFurther : List ℕ → Type 0
@@ -23,9 +23,17 @@ pub name-further : (n : List ℕ) → Name n → allFurther n ≡ true
 unfolding isName allFurther
 name-further [] h = absurd (false≢true h)
 name-further (c ∷ cs) h =
-    let a = and-eq-true-iff (initial c) (allFurther cs && leb (length (c ∷ cs)) mostName) .0 h in
-    let b = and-eq-true-iff (allFurther cs) (leb (length (c ∷ cs)) mostName) .0 (a .1) in
+    let a = and-eq-true-iff (initial c) (allFurther cs && short (c ∷ cs)) .0 h in
+    let b = and-eq-true-iff (allFurther cs) (short (c ∷ cs)) .0 (a .1) in
     and-eq-true-iff (further c) (allFurther cs) .1 (initial-further c (a .0), b .0)
+
+-- A name has at most 16 characters.
+pub name-short : (n : List ℕ) → Name n → length n ≤ mostName
+unfolding isName short
+name-short [] h = absurd (false≢true h)
+name-short (c ∷ cs) h =
+    let a = and-eq-true-iff (initial c) (allFurther cs && short (c ∷ cs)) .0 h in
+    leb-true (length (c ∷ cs)) mostName (and-eq-true-iff (allFurther cs) (short (c ∷ cs)) .0 (a .1) .1)
 
 -- A text that does not go on with such a character does not begin with some of them.
 further-stops : (c : ℕ) (cs r s : List ℕ) → allFurther (c ∷ cs) ≡ true → NoFurther r → r ≡ c ∷ cs ++ s → ⊥

@@ -38,10 +38,10 @@ paged-fixed {a} {Row} {place} {room} {entry} {exit} {exit′} {r} {r′} one p q
     rows = p .rows ∙ ap (λ (xs : List ℕ). min room (length xs)) all ∙ sym (q .rows)
 
     more : r .more ≡ r′ .more
-    more = p .more ∙ ap₂ (λ (n : ℕ) (xs : List ℕ). ltb n (length xs)) rows all ∙ sym (q .more)
+    more = cc (p .more, q .more, rows, all)
 
     next : r .next ≡ r′ .next
-    next = p .next ∙ ap₂ (λ (n : ℕ) (xs : List ℕ). getD xs n (a .count (a .returned))) rows all ∙ sym (q .next)
+    next = cc (p .next, q .next, rows, all)
 
     written : p .written ≡ q .written
     written = rows-one one (subst (λ (xs : List ℕ). Rows Row xs (p .written)) (ap₂ take rows all) (p .rows-written)) (q .rows-written)

@@ -1,6 +1,6 @@
 -- The steps of a question: how many there are, which one is returned, and that each hangs from an earlier one.
 use Prim.Native.Nat.{ℕ, zero, suc, _+_, _≤_, _<_}
-use mathlib.Core.Path.{_≡_, refl}
+use mathlib.Core.Path.{_≡_, refl, ap₂, _∙_}
 use mathlib.Core.List.{List, [], _∷_, _++_}
 use native.Mathlib.Omega.{arith}
 use lib.ListN.{length, getD, length-append}
@@ -17,8 +17,8 @@ mutual
   -- The same of what follows a name.
   pub listAfter-long : (a : After) (me k : ℕ) → length (listAfter a me k) ≡ stepsAfter a
   listAfter-long finish me k = refl
-  listAfter-long (bracket p a) me k = rw (length-append, list-long p (from me) k, listAfter-long a me (k + steps p))
-  listAfter-long (next p) me k = list-long p (from me) k
+  listAfter-long (bracket p a) me k = length-append (list p _ k) (listAfter a _ (k + steps p)) ∙ ap₂ _+_ (list-long p _ k) (listAfter-long a _ (k + steps p))
+  listAfter-long (next p) me k = list-long p _ k
 
 -- A question's list of steps is as long as the question has steps, so that `stepAt` gives a step of the list for each number below it.
 pub steps-listed : (p : Path) → length (stepList p) ≡ steps p
@@ -39,7 +39,10 @@ mutual
   -- The same of what follows the name of step `me`.
   pub lastAfter-lt : (a : After) (me k : ℕ) → me < k → lastAfter a me k < k + stepsAfter a
   lastAfter-lt finish me k h = omega arith
-  lastAfter-lt (bracket p a) me k h = omega (arith, lastAfter-lt a me (k + steps p) (omega arith))
+  lastAfter-lt (bracket p a) me k h = further (lastAfter-lt a _ (k + steps p) (omega (arith, last-lt p k)))
+    where
+      further : {n : ℕ} → n < k + steps p + stepsAfter a → n < k + (steps p + stepsAfter a)
+      further l = omega arith
   lastAfter-lt (next p) me k h = last-lt p k
 
 -- The returned step is one of the question's steps.
@@ -87,8 +90,8 @@ mutual
   -- The steps behind the name of step `me` do.
   listAfter-upward : (a : After) (me k : ℕ) → me < k → Upward k (listAfter a me k)
   listAfter-upward finish me k h = λ i. nothing-before (k + i)
-  listAfter-upward (bracket p a) me k h = upward-append k (list p (from me) k) (listAfter a me (k + steps p)) (list-upward p (from me) k (from-before me k h)) (rw list-long (listAfter-upward a me (k + steps p) (omega arith)))
-  listAfter-upward (next p) me k h = list-upward p (from me) k (from-before me k h)
+  listAfter-upward (bracket p a) me k h = upward-append k (list p _ k) (listAfter a _ (k + steps p)) (list-upward p _ k (from-before _ k (omega arith))) (rw list-long (listAfter-upward a _ (k + steps p) (omega (arith, steps-some p))))
+  listAfter-upward (next p) me k h = list-upward p _ k (from-before _ k (omega arith))
 
 -- The first step of a question hangs from nothing.
 pub hook-first : (p : Path) → stepAt p 0 .hook ≡ nothing

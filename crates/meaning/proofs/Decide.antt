@@ -14,12 +14,8 @@ use mathlib.Core.Path.{_≡_, refl, sym, subst}
 use mathlib.Core.Logic.{_⊎_, inl, inr, ⊎-elim}
 use mathlib.Core.Bool.{Bool, true, false, not, _&&_, true≢false, false≢true}
 use lib.Dec.{T, leb, ltb, eqb}
+use Rattle.meaning.specs.Answers.{Decides, holds, fails}
 use borrow.Author.Tests.{leb-true, leb-false, eqb-true, eqb-false}
-
--- A test decides P: where it is true P holds, and where it is false P does not.
-pub data Decides (P : Type 0) : Bool → Type 0 where
-  holds : P → Decides P true
-  fails : (P → ⊥) → Decides P false
 
 -- What a passed test shows.
 pub passed : {P : Type 0} {b : Bool} → Decides P b → T b → P

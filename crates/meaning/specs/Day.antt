@@ -49,7 +49,7 @@ abbrev pub bodyAt : List ℕ → ℕ → ℕ
 bodyAt b r = rowAt (tags b) + 8 * labels b r
 
 -- Label i of the body that begins at a place: 8 bytes, the start and then the end.
-unfoldable pub labelAt : List ℕ → ℕ → ℕ → Label
+abbrev pub labelAt : List ℕ → ℕ → ℕ → Label
 labelAt b at i = record { start = u32At b (at + 8 * i); end = u32At b (at + 8 * i + 4) }
 
 -- The lists of the day: one for each row, in row order.

@@ -9,3 +9,4 @@ pub mod Picks
 pub mod Pages
 pub mod Refusals
 pub mod Promises
+pub mod Answers

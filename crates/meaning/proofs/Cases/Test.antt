@@ -9,6 +9,7 @@ use lib.Dec.{T, leb, ltb, eqb}
 use lib.ListN.{length, take, drop, getD}
 use lib.Seq.{length-take-le}
 use mir.Facts.{and-yes}
+use Rattle.meaning.specs.Answers.{Decides, holds, fails}
 use Rattle.meaning.specs.declared.Page.{Page}
 use Rattle.meaning.specs.Limits.{mostText, mostSteps, mostDepth}
 use Rattle.meaning.specs.Bytes.{u32At}
@@ -19,7 +20,7 @@ use Rattle.meaning.specs.Picks.{Asked, Evidence, asked}
 use Rattle.meaning.specs.Pages.{Records, Rows, none, row, Position, Paged, answerRoom, evidenceRoom}
 use Rattle.meaning.specs.Refusals.{Clear, Lawful, callTable}
 use Rattle.meaning.specs.Promises.{Checked, Outcome, page, Answered, Shown}
-use Rattle.meaning.proofs.Decide.{each, some, Decides, holds, fails, passed, decides-as, le-decides, eq-decides, and-decides, after-decides, sameBool, bool-decides}
+use Rattle.meaning.proofs.Decide.{each, some, passed, decides-as, le-decides, eq-decides, and-decides, after-decides, sameBool, bool-decides}
 use Rattle.meaning.proofs.Laws.Same.{same-decides}
 use Rattle.meaning.proofs.Decide.Notation.{namedB, named-decides}
 use Rattle.meaning.proofs.Laws.Notation.{one-tree}
@@ -194,7 +195,7 @@ right (empty b) t =
 
 -- The test of a table. Whoever unfolds it unfolds all that it computes with.
 unfoldable pub allB : List Case → Bool
-unfolding checkOf u32At labels labelAt listAmong initial further allFurther short isName same write steps depth list lastStep asked each some choose edgeB hungB pickB somePick returnedB undercutB evidenceB filtered recordsOf namedB eachB listedB writtenB askB rightB
+unfolding checkOf u32At labels listAmong initial further allFurther short isName same write steps depth list lastStep asked each some choose edgeB hungB pickB somePick returnedB undercutB evidenceB filtered recordsOf namedB eachB listedB writtenB askB rightB
 allB [] = true
 allB (c ∷ cs) = rightB c && allB cs
 

@@ -2,7 +2,8 @@
 use mathlib.Core.Logic.{_⊎_, inl, inr, ⊎-elim}
 use mathlib.Core.Bool.{Bool, true, false}
 use mathlib.Core.List.{List, [], _∷_, _++_}
-use Rattle.meaning.proofs.Decide.{Decides, holds, fails, either-decides}
+use Rattle.meaning.specs.Answers.{Decides, holds, fails}
+use Rattle.meaning.proofs.Decide.{either-decides}
 
 module _ {A : Type 0} where
   -- Some member of the list has the property.

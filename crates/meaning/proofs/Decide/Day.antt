@@ -7,13 +7,14 @@ use mathlib.Core.Bool.{Bool, true, false, not}
 use mathlib.Core.List.{List}
 use lib.Dec.{ltb, eqb}
 use lib.ListN.{length}
+use Rattle.meaning.specs.Answers.{Decides, holds, fails}
 use Rattle.meaning.specs.Limits.{mostTags, mostLabels}
 use Rattle.meaning.specs.Bytes.{u16At, u32At}
 use Rattle.meaning.specs.Names.{initial, further, allFurther, short, isName, same, Sooner}
 use Rattle.meaning.specs.Day.{tags, version, rowAt, nameField, offset, labels, labelAt, total, bodyAt, listsOf, RowRight, TooShort, OtherVersion, WrongContents, WrongLength, WrongLists, WrongNesting}
 use Rattle.meaning.specs.Refusals.{Table, end, row, Given, Clear, indexRows, checkTable}
 use Rattle.meaning.specs.Promises.{Checked, lawful, refused}
-use Rattle.meaning.proofs.Decide.{Decides, holds, fails, decides-as, not-decides, lt-decides, eq-decides, each, some, some-decides, both-decides, either-decides}
+use Rattle.meaning.proofs.Decide.{decides-as, not-decides, lt-decides, eq-decides, each, some, some-decides, both-decides, either-decides}
 use Rattle.meaning.proofs.Decide.Among.{among, keep}
 use Rattle.meaning.proofs.Decide.Names.{fillsB, fieldB, field-decides, soonerAt, soonerB, sooner-decides}
 use Rattle.meaning.proofs.Decide.Places.{entriesOf, entriesTo, table, pairs}
@@ -142,7 +143,7 @@ index-judged b rest n j =
 -- The number that the check call gives: that of the first reason of 1 to 6 that applies, or 0.
 -- Whoever unfolds it unfolds all that it computes with.
 unfoldable pub checkOf : List ℕ → ℕ
-unfolding initial further allFurther short isName same u16At u32At labels labelAt each some among keep fillsB fieldB soonerAt soonerB entriesOf entriesTo pairs unorderedB around heads tangledB orderB rowB shortB versionB contentsB lengthB listsB nestingB indexOf
+unfolding initial further allFurther short isName same u16At u32At labels each some among keep fillsB fieldB soonerAt soonerB entriesOf entriesTo pairs unorderedB around heads tangledB orderB rowB shortB versionB contentsB lengthB listsB nestingB indexOf
 checkOf b = indexOf b 0
 
 -- What is judged by the check call's table is checked.

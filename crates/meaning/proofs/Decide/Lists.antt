@@ -6,10 +6,11 @@ use mathlib.Core.Logic.{_⊎_, _≢_}
 use mathlib.Core.Bool.{Bool, true, false, not}
 use mathlib.Core.List.{List}
 use lib.Dec.{leb, ltb, eqb}
+use Rattle.meaning.specs.Answers.{Decides}
 use Rattle.meaning.specs.declared.Label.{Label}
 use Rattle.meaning.specs.Limits.{mostNested}
 use Rattle.meaning.specs.Labels.{Lists, Place, Backward, Descent, Unordered, Share, Cross, Clash, Tangled}
-use Rattle.meaning.proofs.Decide.{Decides, decides-as, not-decides, le-decides, lt-decides, eq-decides, both-decides, either-decides}
+use Rattle.meaning.proofs.Decide.{decides-as, not-decides, le-decides, lt-decides, eq-decides, both-decides, either-decides}
 use Rattle.meaning.proofs.Decide.Among.{among, memberB}
 use Rattle.meaning.proofs.Decide.Places.{Entry, placeIn, labelIn, table, At, at-decides, pairs, pairs-decides}
 use Rattle.meaning.proofs.Decide.Nesting.{heads, nested-decides}

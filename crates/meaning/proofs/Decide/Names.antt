@@ -8,9 +8,10 @@ use mathlib.Core.List.{List, [], _∷_}
 use lib.Dec.{ltb, eqb}
 use lib.ListN.{length, take, getD, replicate, List·getD-eq-default}
 use lib.Seq.{take-append-seam}
+use Rattle.meaning.specs.Answers.{Decides, holds, fails}
 use Rattle.meaning.specs.Limits.{mostName}
 use Rattle.meaning.specs.Names.{isName, Name, filled, Sooner, same}
-use Rattle.meaning.proofs.Decide.{true-decides, Decides, holds, fails, decides-as, or-not, lt-decides, eq-decides, each, each-decides, some, some-decides, both-decides}
+use Rattle.meaning.proofs.Decide.{true-decides, decides-as, or-not, lt-decides, eq-decides, each, each-decides, some, some-decides, both-decides}
 use Rattle.meaning.proofs.Laws.Name.{name-short}
 use Rattle.meaning.proofs.Laws.Same.{same-decides}
 

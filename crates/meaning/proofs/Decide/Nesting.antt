@@ -6,9 +6,10 @@ use mathlib.Core.Path.{_≡_, refl, sym, subst}
 use mathlib.Core.Bool.{Bool, true, false}
 use mathlib.Core.List.{List}
 use lib.Dec.{ltb}
+use Rattle.meaning.specs.Answers.{Decides}
 use Rattle.meaning.specs.declared.Label.{Label}
 use Rattle.meaning.specs.Labels.{Inside, Lists, Place, labelOf, Holds, Nested}
-use Rattle.meaning.proofs.Decide.{Decides, decides-as, lt-decides, both-decides}
+use Rattle.meaning.proofs.Decide.{decides-as, lt-decides, both-decides}
 use Rattle.meaning.proofs.Decide.Among.{Among, among, among-decides, memberB, member-decides, keep, kept, keeps}
 use Rattle.meaning.proofs.Decide.Places.{Entry, labelIn, entryOf, table, table-found, table-find}
 

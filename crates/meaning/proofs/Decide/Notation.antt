@@ -1,8 +1,9 @@
 -- Whether every name in a tree is a name, as a test that antt computes.
 use mathlib.Core.Bool.{Bool, true, _&&_}
+use Rattle.meaning.specs.Answers.{Decides, holds}
 use Rattle.meaning.specs.Names.{isName}
 use Rattle.meaning.specs.Notation.{Path, path, After, finish, bracket, next, Named, NamedAfter}
-use Rattle.meaning.proofs.Decide.{Decides, holds, true-decides, and-decides}
+use Rattle.meaning.proofs.Decide.{true-decides, and-decides}
 
 unfoldable mutual
   -- Every name in the tree is a name.

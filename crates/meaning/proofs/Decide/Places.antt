@@ -7,9 +7,10 @@ use mathlib.Core.Path.{_≡_, subst}
 use mathlib.Core.Logic.{inl, inr, ⊎-elim}
 use mathlib.Core.Bool.{Bool}
 use mathlib.Core.List.{List, [], _∷_, _++_}
+use Rattle.meaning.specs.Answers.{Decides}
 use Rattle.meaning.specs.declared.Label.{Label}
 use Rattle.meaning.specs.Labels.{Lists, Place, labelOf, Holds}
-use Rattle.meaning.proofs.Decide.{Decides, decides-as}
+use Rattle.meaning.proofs.Decide.{decides-as}
 use Rattle.meaning.proofs.Decide.Among.{Among, among, among-decides, among-left, among-right, among-split}
 
 -- An entry of the table: the list, the list position, the start and the end. antt computes the four when it makes the entry.

@@ -7,9 +7,9 @@ use mathlib.Core.Logic.{_⊎_, inl, inr, ⊎-elim}
 use mathlib.Core.Bool.{Bool, true, false}
 use mathlib.Core.List.{List, [], _∷_}
 use lib.ListN.{length, getD}
+use Rattle.meaning.specs.Answers.{Decides, holds, fails}
 use Rattle.meaning.specs.Picks.{Asked, Returned}
 use Rattle.meaning.specs.Pages.{In, Ascending, Records}
-use Rattle.meaning.proofs.Decide.{Decides, holds, fails}
 use Rattle.meaning.proofs.Laws.Day.{Fit}
 use Rattle.meaning.proofs.Decide.Picks.{returnedB, returned-decides}
 

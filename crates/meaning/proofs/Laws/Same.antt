@@ -5,8 +5,9 @@ use mathlib.Core.Path.{_≡_, refl}
 use mathlib.Core.Bool.{Bool, true, false}
 use mathlib.Core.List.{List, [], _∷_}
 use lib.Dec.{T}
+use Rattle.meaning.specs.Answers.{Decides, holds, fails}
 use Rattle.meaning.specs.Names.{same}
-use Rattle.meaning.proofs.Decide.{Decides, holds, fails, decides-as, and-decides, eq-decides, passed, passes}
+use Rattle.meaning.proofs.Decide.{decides-as, and-decides, eq-decides, passed, passes}
 
 -- The empty list is no list that has a first byte.
 empty-not : (x : ℕ) (xs : List ℕ) → [] ≡ x ∷ xs → ⊥

@@ -6,6 +6,7 @@ use mathlib.Core.Bool.{Bool, true, false, cond}
 use mathlib.Core.List.{List}
 use lib.ListN.{length, take, drop}
 use Rattle.meaning.specs.declared.Label.{Label}
+use Rattle.meaning.specs.declared.Body.{Body}
 use Rattle.meaning.specs.Limits.{mostTags, mostLabels, mostName}
 use Rattle.meaning.specs.Bytes.{u16At, u32At}
 use Rattle.meaning.specs.Labels.{Lists, Unordered, Tangled}
@@ -56,12 +57,7 @@ labelAt b at i = record { start = u32At b (at + 8 * i); end = u32At b (at + 8 * 
 abbrev pub listsOf : List ℕ → Lists
 listsOf b = record { many = tags b; count = count b; label = λ r i. labelAt b (offset b r) i }
 
--- A list in the index: where its body begins, and its number of labels.
-pub record Body : Type 0 where
-  pub offset : ℕ
-  pub count : ℕ
-
--- The list of a name among the first r rows; a name without a row has no records.
+-- The list of a name among the first r rows, as where its body begins and its number of labels; a name without a row has no records.
 unfoldable pub listAmong : List ℕ → List ℕ → ℕ → Body
 listAmong b n zero = record { offset = 0; count = 0 }
 listAmong b n (suc r) = cond (same (nameField b r) (filled n)) (record { offset = offset b r; count = count b r }) (listAmong b n r)

@@ -7,12 +7,11 @@ use Rattle.meaning.specs.declared.Page.{Page}
 use Rattle.meaning.specs.Notation.{Follows}
 use Rattle.meaning.specs.Picks.{Asked, Evidence, asked}
 use Rattle.meaning.specs.Pages.{Paged, Refused, Position, answerRoom, evidenceRoom}
-use Rattle.meaning.specs.Refusals.{Given, Clear, Lawful, checkTable, callTable}
+use Rattle.meaning.specs.Refusals.{Given, Clear, Verdict, checkTable, callTable}
 
--- The check call on an index b gives r: 0 for a lawful index, or else the number of the first reason of 1 to 6 that applies.
-pub data Checked (b : List ℕ) : ℕ → Type 0 where
-  lawful : Lawful b → Checked b 0
-  refused : {n : ℕ} → Given (checkTable b) n → Checked b n
+-- The check call on an index gives the number of the first reason of 1 to 6 that applies, or 0 exactly for a lawful index.
+abbrev pub Checked : List ℕ → ℕ → Type 0
+Checked b n = Verdict (checkTable b) n
 
 -- A call on an index b, a question and a place makes `exit` of the lent buffer `entry` and gives r: it refuses with the number of the
 -- first reason that applies, or none applies and it gives a page. The two calls differ in what a row is and in the room for rows.

@@ -39,6 +39,11 @@ abbrev pub Clear : Table → Type 0
 Clear end = Unit
 Clear (row m reason rest) = (reason → ⊥) × Clear rest
 
+-- What a table gives: 0 where no reason of it applies, or else the number of the first row whose reason applies.
+pub data Verdict (t : Table) : ℕ → Type 0 where
+  clear : Clear t → Verdict t 0
+  given : {n : ℕ} → Given t n → Verdict t n
+
 -- A lawful index: no reason of 1 to 6 applies.
 abbrev pub Lawful : List ℕ → Type 0
 Lawful b = Clear (checkTable b)

@@ -32,6 +32,12 @@ impl Label {
     }
 }
 
+// A tag's list in an index: where its body begins, and its number of labels.
+pub struct Body {
+    pub offset: usize,
+    pub count: usize,
+}
+
 // A day index.
 pub struct Index {}
 

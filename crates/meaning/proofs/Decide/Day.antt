@@ -12,10 +12,11 @@ use Rattle.meaning.specs.Limits.{mostTags, mostLabels}
 use Rattle.meaning.specs.Bytes.{u16At, u32At}
 use Rattle.meaning.specs.Names.{initial, further, allFurther, short, isName, same, Sooner}
 use Rattle.meaning.specs.Day.{tags, version, rowAt, nameField, offset, labels, labelAt, total, bodyAt, listsOf, RowRight, TooShort, OtherVersion, WrongContents, WrongLength, WrongLists, WrongNesting}
-use Rattle.meaning.specs.Refusals.{Table, end, row, Given, Clear, indexRows, checkTable}
-use Rattle.meaning.specs.Promises.{Checked, lawful, refused}
+use Rattle.meaning.specs.Refusals.{Table, end, Verdict, clear, indexRows}
+use Rattle.meaning.specs.Promises.{Checked}
 use Rattle.meaning.proofs.Decide.{decides-as, not-decides, lt-decides, eq-decides, each, some, some-decides, both-decides, either-decides}
 use Rattle.meaning.proofs.Decide.Among.{among, keep}
+use Rattle.meaning.proofs.Laws.Table.{row-verdict}
 use Rattle.meaning.proofs.Decide.Names.{fillsB, fieldB, field-decides, soonerAt, soonerB, sooner-decides}
 use Rattle.meaning.proofs.Decide.Places.{entriesOf, entriesTo, table, pairs}
 use Rattle.meaning.proofs.Decide.Nesting.{around, heads}
@@ -107,17 +108,6 @@ pub nesting-decides : (b : List ℕ) → Decides (WrongNesting b) (nestingB b)
 unfolding nestingB
 nesting-decides b = tangled-decides (listsOf b)
 
--- A table judged: no reason of it applies and the number is 0, or the number is given.
-pub data Judged (t : Table) : ℕ → Type 0 where
-  clear : Clear t → Judged t 0
-  given : {n : ℕ} → Given t n → Judged t n
-
--- A row before a judged table: its number where its reason applies, and else the table's.
-pub row-judged : {reason : Type 0} {a : Bool} {rest : Table} {n : ℕ} (m : ℕ) → Decides reason a → Judged rest n → Judged (row m reason rest) (elim a [ true ↦ m | false ↦ n ])
-row-judged m (holds p) j = given (inl (p, refl))
-row-judged m (fails q) (clear c) = clear (q, c)
-row-judged m (fails q) (given g) = given (inr (q, g))
-
 -- The number of the first reason of 1 to 6 that applies, or n, the number of what follows: each test waits for the one before.
 -- n waits too, where a `let` binds it.
 unfoldable pub indexOf : List ℕ → ℕ → ℕ
@@ -132,13 +122,13 @@ indexOf b n = elim (shortB b) [
   ]
 ]
 
--- Rows 1 to 6 before a judged table.
-pub index-judged : (b : List ℕ) (rest : Table) (n : ℕ) → Judged rest n → Judged (indexRows b rest) (indexOf b n)
+-- Rows 1 to 6 before a table whose verdict is known.
+pub index-verdict : (b : List ℕ) (rest : Table) (n : ℕ) → Verdict rest n → Verdict (indexRows b rest) (indexOf b n)
 unfolding indexOf
-index-judged b rest n j =
-    row-judged 1 (short-decides b)
-    (row-judged 2 (version-decides b)
-    (row-judged 3 (contents-decides b) (row-judged 4 (length-decides b) (row-judged 5 (lists-decides b) (row-judged 6 (nesting-decides b) j)))))
+index-verdict b rest n j =
+    row-verdict 1 (short-decides b)
+    (row-verdict 2 (version-decides b)
+    (row-verdict 3 (contents-decides b) (row-verdict 4 (length-decides b) (row-verdict 5 (lists-decides b) (row-verdict 6 (nesting-decides b) j)))))
 
 -- The number that the check call gives: that of the first reason of 1 to 6 that applies, or 0.
 -- Whoever unfolds it unfolds all that it computes with.
@@ -146,12 +136,7 @@ unfoldable pub checkOf : List ℕ → ℕ
 unfolding initial further allFurther short isName same u16At u32At labels each some among keep fillsB fieldB soonerAt soonerB entriesOf entriesTo pairs unorderedB around heads tangledB orderB rowB shortB versionB contentsB lengthB listsB nestingB indexOf
 checkOf b = indexOf b 0
 
--- What is judged by the check call's table is checked.
-judged-checked : {b : List ℕ} {n : ℕ} → Judged (checkTable b) n → Checked b n
-judged-checked (clear c) = lawful c
-judged-checked (given g) = refused g
-
 -- The computed number is the one that the check call promises.
 pub check-agrees : (b : List ℕ) → Checked b (checkOf b)
 unfolding checkOf
-check-agrees b = judged-checked (index-judged b end 0 (clear tt))
+check-agrees b = index-verdict b end 0 (clear tt)

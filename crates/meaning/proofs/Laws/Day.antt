@@ -7,9 +7,10 @@ use mathlib.Core.Logic.{_⊎_, inl, inr, _≢_, ⊎-elim}
 use mathlib.Core.Bool.{Bool, true, false, cond}
 use mathlib.Core.List.{List}
 use Rattle.meaning.specs.declared.Label.{Label}
+use Rattle.meaning.specs.declared.Body.{Body}
 use Rattle.meaning.specs.Labels.{Inside, Apart, Lists, Place, labelOf, Holds, LawfulLists}
 use Rattle.meaning.specs.Names.{filled, same}
-use Rattle.meaning.specs.Day.{tags, offset, count, labels, total, labelAt, listsOf, nameField, Body, listAmong, listOf, TooShort, OtherVersion, WrongContents, WrongLength}
+use Rattle.meaning.specs.Day.{tags, offset, count, labels, total, labelAt, listsOf, nameField, listAmong, listOf, TooShort, OtherVersion, WrongContents, WrongLength}
 use Rattle.meaning.specs.Notation.{Path, from}
 use Rattle.meaning.specs.Picks.{Asked, asked, stepAt}
 use Rattle.meaning.specs.Refusals.{Lawful}

@@ -3,9 +3,11 @@ use Prim.Native.Nat.{ℕ, _≤_, _<_}
 use native.Mathlib.Omega.{arith}
 use mathlib.Core.Path.{_≡_, refl, sym, _∙_}
 use mathlib.Core.Logic.{_⊎_, inl, inr}
+use mathlib.Core.Bool.{Bool, true, false}
 use mathlib.Core.List.{List}
-use Rattle.meaning.specs.Refusals.{Table, end, row, Given, Clear, Lawful, indexRows, questionRows, checkTable, callTable}
-use Rattle.meaning.specs.Promises.{Checked, lawful, refused}
+use Rattle.meaning.specs.Answers.{Decides, holds, fails}
+use Rattle.meaning.specs.Refusals.{Table, end, row, Given, Clear, Verdict, clear, given, Lawful, indexRows, questionRows, checkTable, callTable}
+use Rattle.meaning.specs.Promises.{Checked}
 
 -- A table gives at most one number.
 pub given-one : (t : Table) (m n : ℕ) → Given t m → Given t n → m ≡ n
@@ -76,14 +78,24 @@ clear-lawful b text (no₁, (no₂, (no₃, (no₄, (no₅, (no₆, rest)))))) =
 pub lawful-clear : (b : List ℕ) (text : List ℕ) → Lawful b → Clear (questionRows b text) → Clear (callTable b text)
 lawful-clear b text (no₁, (no₂, (no₃, (no₄, (no₅, (no₆, rest)))))) q = (no₁, (no₂, (no₃, (no₄, (no₅, (no₆, q))))))
 
+-- A table gives one number: two verdicts on it are equal.
+pub verdict-one : (t : Table) (m n : ℕ) → Verdict t m → Verdict t n → m ≡ n
+verdict-one t m n (clear c) (clear d) = refl
+verdict-one t m n (clear c) (given g) = absurd (clear-not-given t n c g)
+verdict-one t m n (given g) (clear c) = absurd (clear-not-given t m c g)
+verdict-one t m n (given g) (given h) = given-one t m n g h
+
 -- The check call's promise fixes its result.
 pub checked-fixed : (b : List ℕ) (m n : ℕ) → Checked b m → Checked b n → m ≡ n
-checked-fixed b m n (lawful c) (lawful d) = refl
-checked-fixed b m n (lawful c) (refused g) = absurd (clear-not-given (checkTable b) n c g)
-checked-fixed b m n (refused g) (lawful c) = absurd (clear-not-given (checkTable b) m c g)
-checked-fixed b m n (refused g) (refused h) = given-one (checkTable b) m n g h
+checked-fixed b = verdict-one (checkTable b)
 
 -- An index to which the check call gives 0 is lawful.
 pub checked-lawful : (b : List ℕ) (n : ℕ) → n ≡ 0 → Checked b n → Lawful b
-checked-lawful b n e (lawful c) = c
-checked-lawful b n e (refused g) = absurd (omega (arith, above (checkTable b) 0 (check-rising b) n (given-applies (checkTable b) n g)))
+checked-lawful b n e (clear c) = c
+checked-lawful b n e (given g) = absurd (omega (arith, above (checkTable b) 0 (check-rising b) n (given-applies (checkTable b) n g)))
+
+-- A row before a table whose verdict is known: its own number where its reason applies, and else the table's.
+pub row-verdict : {reason : Type 0} {a : Bool} {rest : Table} {n : ℕ} (m : ℕ) → Decides reason a → Verdict rest n → Verdict (row m reason rest) (elim a [ true ↦ m | false ↦ n ])
+row-verdict m (holds p) v = given (inl (p, refl))
+row-verdict m (fails q) (clear c) = clear (q, c)
+row-verdict m (fails q) (given g) = given (inr (q, g))

@@ -72,27 +72,23 @@ impl Name {
     }
 }
 
-// A question's text.
-pub struct Question {}
-
-impl Question {
-    pub const MOST_BYTES: usize = 1_024;
-
-    pub fn most_bytes() -> usize
-        ensures { λ r. ⌜ r ≡ mostText ⌝ }
-    {
-        Question::MOST_BYTES
-    }
+// A step of a question that was read.
+pub struct Step {
+    // Where its name starts in the text, and how long it is.
+    pub start: u16,
+    pub length: u8,
+    // The number of the step that it hangs from, or NOTHING.
+    pub hangs: u8,
 }
-
-// A step of a question.
-pub struct Step {}
 
 impl Step {
     pub const MOST: usize = 32;
 
     // Most brackets that stand one in the other around a step.
     pub const MOST_DEPTH: usize = 8;
+
+    // What stands for the number of a step where a step hangs from nothing.
+    pub const NOTHING: u8 = 255;
 
     pub fn most() -> usize
         ensures { λ r. ⌜ r ≡ mostSteps ⌝ }
@@ -104,5 +100,23 @@ impl Step {
         ensures { λ r. ⌜ r ≡ mostDepth ⌝ }
     {
         Step::MOST_DEPTH
+    }
+}
+
+// A question that was read: its steps in text order, how many there are, and which one is returned. Entries past the last step are blank.
+pub struct Question {
+    pub steps: [Step; Step::MOST],
+    pub count: usize,
+    pub returned: usize,
+}
+
+impl Question {
+    // Most bytes of a question's text.
+    pub const MOST_BYTES: usize = 1_024;
+
+    pub fn most_bytes() -> usize
+        ensures { λ r. ⌜ r ≡ mostText ⌝ }
+    {
+        Question::MOST_BYTES
     }
 }

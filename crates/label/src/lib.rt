@@ -4,6 +4,7 @@ ghost use Prim.Native.Nat.{_+_, _*_, _<_, _≤_};
 ghost use lib.ListN.{length};
 ghost use Rattle.meaning.specs.Bytes.{u16At, u32At};
 ghost use Rattle.meaning.specs.Day.{labelAt};
+ghost use Rattle.label.specs.Started.{Ascends, Started};
 use meaning::Label;
 
 // A byte as a 32-bit number: a cast that asks nothing of the caller.
@@ -18,9 +19,9 @@ pub fn u16_at(s: &[u8], at: usize) -> u32
     requires { ⌜ at + 2 ≤ length (now s) ⌝ }
     ensures { λ r. ⌜ (r ≡ u16At (now (s .entry)) at) × (r < 65536) ⌝ }
 {
-    let a = wide(s[at]);
-    let b = wide(s[at + 1]);
-    a + 256 * b
+    let low = wide(s[at]);
+    let high = wide(s[at + 1]);
+    low + 256 * high
 }
 
 // The 32-bit number whose four bytes begin at `at`.
@@ -60,4 +61,25 @@ pub fn label_at(s: &[u8], at: usize, i: usize) -> Label
         start: start_at(s, at, i),
         end: end_at(s, at, i),
     }
+}
+
+// How many of the n labels of the body that begins at `at` start at or before `v`. They ascend by start, so a look at the one in
+// the middle of those that are left settles one half of them.
+pub fn started(s: &[u8], at: usize, n: usize, v: u32) -> usize
+    requires { ⌜ (at + 8 * n ≤ length (now s)) × Ascends (now s) at n ⌝ }
+    ensures { λ r. ⌜ Started (now (s .entry)) at n v r ⌝ }
+{
+    let mut lo = 0;
+    let mut left = n;
+    while 0 < left {
+        let half = left / 2;
+        let x = start_at(s, at, lo + half);
+        if x <= v {
+            lo += half + 1;
+            left -= half + 1;
+        } else {
+            left = half;
+        }
+    }
+    lo
 }

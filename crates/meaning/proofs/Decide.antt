@@ -27,6 +27,24 @@ pub passes : {P : Type 0} {b : Bool} → Decides P b → P → T b
 passes (holds p) h = tt
 passes (fails n) h = n h
 
+-- What an answer says, where it is known.
+pub if-true : {P : Type 0} {b : Bool} → Decides P b → b ≡ true → P
+if-true (holds p) e = p
+if-true (fails n) e = absurd (false≢true e)
+
+pub if-false : {P : Type 0} {b : Bool} → Decides P b → b ≡ false → P → ⊥
+if-false (holds p) e = absurd (true≢false e)
+if-false (fails n) e = n
+
+-- The same where the code asks for the opposite.
+pub if-not-false : {P : Type 0} {b : Bool} → Decides P b → not b ≡ false → P
+if-not-false (holds p) e = p
+if-not-false (fails n) e = absurd (true≢false e)
+
+pub if-not-true : {P : Type 0} {b : Bool} → Decides P b → not b ≡ true → P → ⊥
+if-not-true (holds p) e = absurd (false≢true e)
+if-not-true (fails n) e = n
+
 -- What is decided holds or does not.
 pub or-not : {P : Type 0} {b : Bool} → Decides P b → P ⊎ (P → ⊥)
 or-not (holds p) = inl p

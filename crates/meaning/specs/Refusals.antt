@@ -12,22 +12,23 @@ pub data Table : Type 1 where
   end : Table
   row : ℕ → Type 0 → Table → Table
 
--- Rows 1 to 6, of which each is about the index, and then other rows.
-abbrev pub indexRows : List ℕ → Table → Table
-indexRows b rest =
-    row 1 (TooShort b) (row 2 (OtherVersion b) (row 3 (WrongContents b) (row 4 (WrongLength b) (row 5 (WrongLists b) (row 6 (WrongNesting b) rest)))))
+-- One table after another.
+abbrev pub followed : Table → Table → Table
+followed end more = more
+followed (row n reason rest) more = row n reason (followed rest more)
 
--- Rows 7 to 10, about the question.
-abbrev pub questionRows : List ℕ → List ℕ → Table
-questionRows b text = row 7 (TooLong text) (row 8 (NotFollowing text) (row 9 (TooLarge text) (row 10 (TooMany b text) end)))
-
--- The table of the check call, which knows 1 to 6.
+-- The table of the check call: rows 1 to 6, which are about the index.
 abbrev pub checkTable : List ℕ → Table
-checkTable b = indexRows b end
+checkTable b =
+    row 1 (TooShort b) (row 2 (OtherVersion b) (row 3 (WrongContents b) (row 4 (WrongLength b) (row 5 (WrongLists b) (row 6 (WrongNesting b) end)))))
+
+-- Rows 7 to 10, which are about the question.
+abbrev pub questionTable : List ℕ → List ℕ → Table
+questionTable b text = row 7 (TooLong text) (row 8 (NotFollowing text) (row 9 (TooLarge text) (row 10 (TooMany b text) end)))
 
 -- The table of the answer call and of the evidence call.
 abbrev pub callTable : List ℕ → List ℕ → Table
-callTable b text = indexRows b (questionRows b text)
+callTable b text = followed (checkTable b) (questionTable b text)
 
 -- The number n is given: it is the number of the first row whose reason applies.
 abbrev pub Given : Table → ℕ → Type 0

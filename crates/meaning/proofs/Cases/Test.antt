@@ -18,13 +18,13 @@ use Rattle.meaning.specs.Day.{labels, total, labelAt, listAmong}
 use Rattle.meaning.specs.Notation.{Path, write, Named, Follows, steps, depth, list, lastStep, TooLong, NotFollowing, TooLarge}
 use Rattle.meaning.specs.Picks.{Asked, Evidence, asked}
 use Rattle.meaning.specs.Pages.{Records, Rows, none, row, Position, Paged, answerRoom, evidenceRoom}
-use Rattle.meaning.specs.Refusals.{Clear, Lawful, callTable}
+use Rattle.meaning.specs.Refusals.{Clear, Lawful, checkTable, questionTable, callTable}
 use Rattle.meaning.specs.Promises.{Checked, Outcome, page, Answered, Shown}
 use Rattle.meaning.proofs.Decide.{each, some, passed, decides-as, le-decides, eq-decides, and-decides, after-decides, sameBool, bool-decides}
 use Rattle.meaning.proofs.Laws.Same.{same-decides}
 use Rattle.meaning.proofs.Decide.Notation.{namedB, named-decides}
 use Rattle.meaning.proofs.Laws.Notation.{one-tree}
-use Rattle.meaning.proofs.Laws.Table.{checked-lawful, lawful-clear}
+use Rattle.meaning.proofs.Laws.Table.{checked-lawful, clear-both}
 use Rattle.meaning.proofs.Laws.Day.{Fit, lawful-fit}
 use Rattle.meaning.proofs.Decide.Day.{checkOf, check-agrees}
 use Rattle.meaning.proofs.Decide.Picks.{choose, edgeB, hungB, pickB, somePick, returnedB, undercutB, evidenceB, evidence-decides}
@@ -136,7 +136,7 @@ module _ (c : Asking) (e : checkOf (c .index) ≡ 0) (w : Written c) (l : Listed
   follows = record { tree = c .tree; named = w .1 .0; written = w .0 }
 
   clear : Clear (callTable (c .index) (c .text))
-  clear = lawful-clear (c .index) (c .text) law (long, (λ n. n follows, (large, (never-too-many (c .index) (c .text) law, tt))))
+  clear = clear-both (checkTable (c .index)) (questionTable (c .index) (c .text)) law (long, (λ n. n follows, (large, (never-too-many (c .index) (c .text) law, tt))))
     where
       long : TooLong (c .text) → ⊥
       long h = omega (arith, w .1 .1 .0)

@@ -12,7 +12,7 @@ use Rattle.meaning.specs.Limits.{mostTags, mostLabels}
 use Rattle.meaning.specs.Bytes.{u16At, u32At}
 use Rattle.meaning.specs.Names.{initial, further, allFurther, short, isName, same, Sooner}
 use Rattle.meaning.specs.Day.{tags, version, rowAt, nameField, offset, labels, labelAt, total, bodyAt, listsOf, RowRight, TooShort, OtherVersion, WrongContents, WrongLength, WrongLists, WrongNesting}
-use Rattle.meaning.specs.Refusals.{Table, end, Verdict, clear, indexRows}
+use Rattle.meaning.specs.Refusals.{clear}
 use Rattle.meaning.specs.Promises.{Checked}
 use Rattle.meaning.proofs.Decide.{decides-as, not-decides, lt-decides, eq-decides, each, some, some-decides, both-decides, either-decides}
 use Rattle.meaning.proofs.Decide.Among.{among, keep}
@@ -108,35 +108,25 @@ pub nesting-decides : (b : List ℕ) → Decides (WrongNesting b) (nestingB b)
 unfolding nestingB
 nesting-decides b = tangled-decides (listsOf b)
 
--- The number of the first reason of 1 to 6 that applies, or n, the number of what follows: each test waits for the one before.
--- n waits too, where a `let` binds it.
-unfoldable pub indexOf : List ℕ → ℕ → ℕ
-indexOf b n = elim (shortB b) [
+-- The number that the check call gives: that of the first reason of 1 to 6 that applies, or 0; each test waits for the one before.
+-- Whoever unfolds it unfolds all that it computes with.
+unfoldable pub checkOf : List ℕ → ℕ
+unfolding initial further allFurther short isName same u16At u32At labels each some among keep fillsB fieldB soonerAt soonerB entriesOf entriesTo pairs unorderedB around heads tangledB orderB rowB shortB versionB contentsB lengthB listsB nestingB
+checkOf b = elim (shortB b) [
   | true ↦ 1
   | false ↦ elim (versionB b) [
     | true ↦ 2
     | false ↦ elim (contentsB b) [
       | true ↦ 3
-      | false ↦ elim (lengthB b) [ true ↦ 4 | false ↦ elim (listsB b) [ true ↦ 5 | false ↦ elim (nestingB b) [ true ↦ 6 | false ↦ n ] ] ]
+      | false ↦ elim (lengthB b) [ true ↦ 4 | false ↦ elim (listsB b) [ true ↦ 5 | false ↦ elim (nestingB b) [ true ↦ 6 | false ↦ 0 ] ] ]
     ]
   ]
 ]
 
--- Rows 1 to 6 before a table whose verdict is known.
-pub index-verdict : (b : List ℕ) (rest : Table) (n : ℕ) → Verdict rest n → Verdict (indexRows b rest) (indexOf b n)
-unfolding indexOf
-index-verdict b rest n j =
-    row-verdict 1 (short-decides b)
-    (row-verdict 2 (version-decides b)
-    (row-verdict 3 (contents-decides b) (row-verdict 4 (length-decides b) (row-verdict 5 (lists-decides b) (row-verdict 6 (nesting-decides b) j)))))
-
--- The number that the check call gives: that of the first reason of 1 to 6 that applies, or 0.
--- Whoever unfolds it unfolds all that it computes with.
-unfoldable pub checkOf : List ℕ → ℕ
-unfolding initial further allFurther short isName same u16At u32At labels each some among keep fillsB fieldB soonerAt soonerB entriesOf entriesTo pairs unorderedB around heads tangledB orderB rowB shortB versionB contentsB lengthB listsB nestingB indexOf
-checkOf b = indexOf b 0
-
 -- The computed number is the one that the check call promises.
 pub check-agrees : (b : List ℕ) → Checked b (checkOf b)
 unfolding checkOf
-check-agrees b = index-verdict b end 0 (clear tt)
+check-agrees b =
+    row-verdict 1 (short-decides b)
+    (row-verdict 2 (version-decides b)
+    (row-verdict 3 (contents-decides b) (row-verdict 4 (length-decides b) (row-verdict 5 (lists-decides b) (row-verdict 6 (nesting-decides b) (clear tt))))))

@@ -6,7 +6,7 @@ use mathlib.Core.Logic.{_⊎_, inl, inr}
 use mathlib.Core.Bool.{Bool, true, false}
 use mathlib.Core.List.{List}
 use Rattle.meaning.specs.Answers.{Decides, holds, fails}
-use Rattle.meaning.specs.Refusals.{Table, end, row, Given, Clear, Verdict, clear, given, Lawful, indexRows, questionRows, checkTable, callTable}
+use Rattle.meaning.specs.Refusals.{Table, end, row, Given, Clear, Verdict, clear, given, Lawful, followed, checkTable, callTable}
 use Rattle.meaning.specs.Promises.{Checked}
 
 -- A table gives at most one number.
@@ -60,23 +60,25 @@ call-rising b text = (omega arith, (omega arith, (omega arith, (omega arith, (om
 pub check-rising : (b : List ℕ) → Rising 0 (checkTable b)
 check-rising b = (omega arith, (omega arith, (omega arith, (omega arith, (omega arith, (omega arith, tt))))))
 
--- What the index's rows say goes before what stands behind them: a broken index gives its own number, whatever the question.
-pub index-first : (b : List ℕ) (rest : Table) (n : ℕ) → Given (checkTable b) n → Given (indexRows b rest) n
-index-first b rest n (inl g) = inl g
-index-first b rest n (inr (no₁, inl g)) = inr (no₁, inl g)
-index-first b rest n (inr (no₁, inr (no₂, inl g))) = inr (no₁, inr (no₂, inl g))
-index-first b rest n (inr (no₁, inr (no₂, inr (no₃, inl g)))) = inr (no₁, inr (no₂, inr (no₃, inl g)))
-index-first b rest n (inr (no₁, inr (no₂, inr (no₃, inr (no₄, inl g))))) = inr (no₁, inr (no₂, inr (no₃, inr (no₄, inl g))))
-index-first b rest n (inr (no₁, inr (no₂, inr (no₃, inr (no₄, inr (no₅, inl g)))))) = inr (no₁, inr (no₂, inr (no₃, inr (no₄, inr (no₅, inl g)))))
-index-first b rest n (inr (no₁, inr (no₂, inr (no₃, inr (no₄, inr (no₅, inr g)))))) = absurd (g .1)
+-- What a table gives, it gives also where another follows: a broken index gives its own number, whatever the question.
+pub given-first : (t u : Table) (n : ℕ) → Given t n → Given (followed t u) n
+given-first end u n g = absurd g
+given-first (row m reason rest) u n (inl g) = inl g
+given-first (row m reason rest) u n (inr g) = inr (g .0, given-first rest u n (g .1))
 
--- A call that refuses nothing has a lawful index.
-pub clear-lawful : (b : List ℕ) (text : List ℕ) → Clear (callTable b text) → Lawful b
-clear-lawful b text (no₁, (no₂, (no₃, (no₄, (no₅, (no₆, rest)))))) = (no₁, (no₂, (no₃, (no₄, (no₅, (no₆, tt))))))
+-- Where a table has nothing, the table that follows it gives its number.
+pub given-after : (t u : Table) (n : ℕ) → Clear t → Given u n → Given (followed t u) n
+given-after end u n c g = g
+given-after (row m reason rest) u n c g = inr (c .0, given-after rest u n (c .1) g)
 
--- A lawful index with a question that no further row is about is refused for nothing.
-pub lawful-clear : (b : List ℕ) (text : List ℕ) → Lawful b → Clear (questionRows b text) → Clear (callTable b text)
-lawful-clear b text (no₁, (no₂, (no₃, (no₄, (no₅, (no₆, rest)))))) q = (no₁, (no₂, (no₃, (no₄, (no₅, (no₆, q))))))
+-- No reason of two tables applies exactly if no reason of either does.
+pub clear-both : (t u : Table) → Clear t → Clear u → Clear (followed t u)
+clear-both end u c d = d
+clear-both (row m reason rest) u c d = (c .0, clear-both rest u (c .1) d)
+
+pub clear-first : (t u : Table) → Clear (followed t u) → Clear t
+clear-first end u c = tt
+clear-first (row m reason rest) u c = (c .0, clear-first rest u (c .1))
 
 -- A table gives one number: two verdicts on it are equal.
 pub verdict-one : (t : Table) (m n : ℕ) → Verdict t m → Verdict t n → m ≡ n

@@ -1,0 +1,89 @@
+-- `tournament::put` meets its contract. The loop's invariant: every node but i is right. The measure is i.
+use native.Mathlib.Omega.{arith}
+use borrow.Author.Needs.{needs}
+use Rattle.day.proofs.Playing.{Playing, playing-begin, playing-on, playing-end}
+use Rattle.day.proofs.tournament.put.Statement.{statement}
+use Rattle.day.proofs.tournament.put.Tie as tie
+
+abbrev Inv-loop : tie.InvT-loop
+Inv-loop tree₀ m leaf key i₀ tree i = Playing m leaf key tree₀ i tree
+
+abbrev μ-loop : tie.MeasureT-loop
+μ-loop tree₀ m leaf key i₀ tree i = i
+
+add-i : tie.Need-add-i Inv-loop μ-loop
+add-i c = search needs
+
+mul-tree : tie.Need-mul-tree Inv-loop μ-loop
+mul-tree c = search needs
+
+element-write-tree : tie.Need-element-write-tree Inv-loop μ-loop
+element-write-tree c = search needs
+
+loop-holds : tie.Need-loop-holds Inv-loop μ-loop
+loop-holds c = playing-begin (c .args .m) (c .args .leaf) (c .args .key) (c .args .tree .now) (c .pre .0) (c .pre .1) (c .pre .2)
+
+mul-a : tie.Need-mul-a Inv-loop μ-loop
+mul-a c = search needs
+
+mul-a-2 : tie.Need-mul-a-2 Inv-loop μ-loop
+mul-a-2 c = search needs
+
+element-copy-out-a : tie.Need-element-copy-out-a Inv-loop μ-loop
+element-copy-out-a c = search needs
+
+mul-b : tie.Need-mul-b Inv-loop μ-loop
+mul-b c = search needs
+
+add-b : tie.Need-add-b Inv-loop μ-loop
+add-b c = search needs
+
+mul-b-2 : tie.Need-mul-b-2 Inv-loop μ-loop
+mul-b-2 c = search needs
+
+element-copy-out-b : tie.Need-element-copy-out-b Inv-loop μ-loop
+element-copy-out-b c = search needs
+
+lesser-requires : tie.Need-lesser-requires Inv-loop μ-loop
+lesser-requires c κs = search needs
+
+mul-tree-2 : tie.Need-mul-tree-2 Inv-loop μ-loop
+mul-tree-2 c = search needs
+
+element-write-tree-2 : tie.Need-element-write-tree-2 Inv-loop μ-loop
+element-write-tree-2 c = search needs
+
+loop-less : tie.Need-loop-less Inv-loop μ-loop
+loop-less c = search needs
+
+loop-again : tie.Need-loop-again Inv-loop μ-loop
+loop-again c =
+    let i = c .before .before .before in
+    playing-on _ _ _ _ _ _ _ (i .before .loop .inv) (omega (arith, i .loop-test .taken)) (c .lesser .ensures)
+
+returns : tie.Need-returns Inv-loop μ-loop
+returns c = let a = c .before .before .args in playing-end (a .m) (a .leaf) (a .key) (a .tree .now) _ _ (c .before .loop .inv) (omega (arith, c .loop-test .left))
+
+pub put-spec : {M : Type 1} → statement M
+put-spec =
+    tie.close
+    (tie.spec
+    Inv-loop
+    μ-loop
+    add-i
+    mul-tree
+    element-write-tree
+    loop-holds
+    mul-a
+    mul-a-2
+    element-copy-out-a
+    mul-b
+    add-b
+    mul-b-2
+    element-copy-out-b
+    lesser-requires
+    mul-tree-2
+    element-write-tree-2
+    loop-less
+    loop-again
+    returns)

@@ -1,0 +1,28 @@
+-- What the small tests of the table of contents are about.
+use Prim.Native.Nat.{ℕ, suc, _≤_, _<_}
+use mathlib.Core.Path.{_≡_}
+use mathlib.Core.Bool.{Bool, true, false}
+use mathlib.Core.List.{List}
+use lib.ListN.{length}
+use Rattle.meaning.specs.Bytes.{byteAt}
+use Rattle.meaning.specs.Names.{Name, filled, Sooner}
+use Rattle.meaning.specs.Day.{tags, total, nameField, RowRight}
+
+-- The bytes of a list from place n on are zero.
+abbrev pub ZeroFrom : List ℕ → ℕ → Type 0
+ZeroFrom s n = (i : ℕ) → n ≤ i → i < length s → byteAt s i ≡ 0
+
+-- A name, filled up with zero bytes, stands in the field.
+pub record Named (f : List ℕ) : Type 0 where
+  pub name : List ℕ
+  pub is-name : Name name
+  pub here : f ≡ filled name
+
+-- Row r comes after the row before it, if there is one.
+abbrev pub InOrder : List ℕ → ℕ → Type 0
+InOrder b r = (q : ℕ) → suc q ≡ r → Sooner (nameField b q) (nameField b r)
+
+-- What looking at all rows says: each is right, and n is how many labels they have together; or there is one that is not right.
+abbrev pub AllRows : List ℕ → Bool → ℕ → Type 0
+AllRows b true n = ((r : ℕ) → r < tags b → RowRight b r) × (n ≡ total b)
+AllRows b false n = (r : ℕ) × (r < tags b) × (RowRight b r → ⊥)

@@ -1,0 +1,34 @@
+// The day index: its table of contents, the check, and looking up a name.
+mod by_name;
+mod contents;
+mod lists;
+mod names;
+mod open;
+mod rows;
+mod sweep;
+mod tournament;
+
+ghost use Rattle.meaning.specs.Promises.{Checked};
+pub use by_name::find;
+pub use by_name::lookup;
+use contents::contents;
+use lists::lists_wrong;
+use sweep::nesting_wrong;
+
+// The check call: the number of the first reason for which the index is refused, or 0 exactly for a lawful one. Each part may rest on what
+// the parts before it have found.
+pub fn check(index: &[u8]) -> u32
+    ensures { λ r. ⌜ Checked (now (index .entry)) r ⌝ }
+{
+    let refusal = contents(index);
+    if refusal != 0 {
+        return refusal;
+    }
+    if lists_wrong(index) {
+        return 5;
+    }
+    if nesting_wrong(index) {
+        return 6;
+    }
+    0
+}

@@ -1,0 +1,36 @@
+// The fields of the table of contents.
+ghost use mathlib.Core.Path.{_≡_};
+ghost use Prim.Native.Nat.{_+_, _*_, _<_, _≤_};
+ghost use lib.ListN.{length};
+ghost use Rattle.meaning.specs.Day.{tags, version, offset, count, rowAt};
+
+// T, the number of tags.
+pub fn tags_of(index: &[u8]) -> usize
+    requires { ⌜ 4 ≤ length (now index) ⌝ }
+    ensures { λ r. ⌜ (r ≡ tags (now (index .entry))) × (r < 65536) ⌝ }
+{
+    label::u16_at(index, 0) as usize
+}
+
+pub fn version_of(index: &[u8]) -> u32
+    requires { ⌜ 4 ≤ length (now index) ⌝ }
+    ensures { λ r. ⌜ r ≡ version (now (index .entry)) ⌝ }
+{
+    label::u16_at(index, 2)
+}
+
+// Where the body of row r begins.
+pub fn offset_of(index: &[u8], r: usize) -> usize
+    requires { ⌜ rowAt r + 24 ≤ length (now index) ⌝ }
+    ensures { λ o. ⌜ (o ≡ offset (now (index .entry)) r) × (o < 4294967296) ⌝ }
+{
+    label::u32_at(index, 4 + 24 * r + 16) as usize
+}
+
+// How many labels row r has.
+pub fn count_of(index: &[u8], r: usize) -> usize
+    requires { ⌜ rowAt r + 24 ≤ length (now index) ⌝ }
+    ensures { λ n. ⌜ (n ≡ count (now (index .entry)) r) × (n < 4294967296) ⌝ }
+{
+    label::u32_at(index, 4 + 24 * r + 20) as usize
+}

@@ -1,0 +1,192 @@
+// Refusal 6: all lists together, in order of start, with the table of the records that are still open.
+ghost use mathlib.Core.Path.{_≡_};
+ghost use Prim.Native.Nat.{ℕ, suc, _<_, _≤_};
+ghost use mathlib.Core.Bool.{true, false};
+ghost use lib.ListN.{replicate};
+ghost use Rattle.meaning.specs.Limits.{mostTags, mostNested};
+ghost use Rattle.meaning.specs.Answers.{Decides};
+ghost use Rattle.meaning.specs.Day.{tags, listsOf, WrongNesting};
+ghost use Rattle.day.specs.Parts.{Placed, Ordered};
+ghost use Rattle.day.specs.Turns.{Closes, Refused, Topmost, Ready, Turned};
+use super::open;
+use super::open::Open;
+use super::rows;
+use super::tournament;
+use meaning::Index;
+use meaning::Label;
+
+// What the sweep carries from turn to turn, beside the table.
+pub struct State {
+    // Whether it goes on, and else whether something is wrong.
+    pub going: bool,
+    pub wrong: bool,
+    // Whether the innermost open record goes to the table, and else comes from it.
+    pub put: bool,
+    // Where it stands there.
+    pub at: usize,
+    // How many records are open, and the innermost of them.
+    pub depth: usize,
+    pub inner: Open,
+}
+
+// The state when the sweep is over.
+fn over(wrong: bool) -> State
+    ensures { λ s. ⌜ (s .going ≡ false) × (s .wrong ≡ wrong) × (s .put ≡ false) × (s .at < mostNested) ⌝ }
+{
+    State {
+        going: false,
+        wrong: wrong,
+        put: false,
+        at: 0,
+        depth: 0,
+        inner: Open { start: 0, end: 0 },
+    }
+}
+
+// The place of the last of the open records, and 0 if none is open.
+fn place_of(depth: usize) -> usize
+    requires { ⌜ depth ≤ mostNested ⌝ }
+    ensures { λ r. ⌜ (r < mostNested) × ((k : ℕ) → depth ≡ suc k → r ≡ k) ⌝ }
+{
+    if depth == 0 {
+        return 0;
+    }
+    depth - 1
+}
+
+// The state when `depth` records are open and the innermost of them is to come from the table.
+fn closed(depth: usize) -> State
+    requires { ⌜ depth ≤ mostNested ⌝ }
+    ensures { λ s. ⌜ (s .going ≡ true) × (s .put ≡ false) × (s .at < mostNested) × (s .depth ≡ depth) × Topmost s ⌝ }
+{
+    State {
+        going: true,
+        wrong: false,
+        put: false,
+        at: place_of(depth),
+        depth: depth,
+        inner: Open { start: 0, end: 0 },
+    }
+}
+
+// The state when a record is opened inside `depth` others.
+fn opened(depth: usize, start: u32, end: u32) -> State
+    requires { ⌜ depth < mostNested ⌝ }
+    ensures { λ s. ⌜ (s .going ≡ true) × (s .put ≡ true) × (s .at ≡ depth) × (s .depth ≡ suc depth) × (s .inner .start ≡ start) × (s .inner .end ≡ end) ⌝ }
+{
+    State {
+        going: true,
+        wrong: false,
+        put: true,
+        at: depth,
+        depth: depth + 1,
+        inner: Open { start, end },
+    }
+}
+
+// Whether the innermost open record ends before `start`.
+fn closes(depth: usize, inner: Open, start: u32) -> bool
+    ensures { λ r. ⌜ Decides (Closes depth inner start) r ⌝ }
+{
+    if depth == 0 {
+        return false;
+    }
+    if inner.end < start {
+        return true;
+    }
+    false
+}
+
+// Whether a record that starts before the innermost open one has ended is refused.
+fn refused(depth: usize, inner: Open, start: u32, end: u32) -> bool
+    ensures { λ r. ⌜ Decides (Refused depth inner start end) r ⌝ }
+{
+    if depth == 0 {
+        return false;
+    }
+    if inner.start == start {
+        return true;
+    }
+    if inner.end <= end {
+        return true;
+    }
+    if depth == Label::MOST_NESTED {
+        return true;
+    }
+    false
+}
+
+// One turn, with all its decisions: it names the label that starts next, and closes the innermost open record, refuses the label or opens it.
+fn judge(
+    index: &[u8],
+    m: usize,
+    tree: &mut [u64; tournament::NODES],
+    places: &mut [usize; Index::MOST_TAGS],
+    s: State,
+) -> State
+    requires { ⌜ Ready (now index) m (now tree) (now places) (s .depth) ⌝ }
+    ensures turned { λ r. ⌜ Turned (now (index .entry)) m (now (tree .entry)) (now (places .entry)) s (now (tree .exit)) (now (places .exit)) r ⌝ }
+    ensures fits { λ r. ⌜ r .at < mostNested ⌝ }
+{
+    let key = tree[tournament::ROOT];
+    if tournament::PAST <= key {
+        return over(false);
+    }
+    let start = tournament::start_of(key);
+    let depth = s.depth;
+    let inner = s.inner;
+    if closes(depth, inner, start) {
+        return closed(depth - 1);
+    }
+    let r = tournament::list_of(key);
+    let p = places[r];
+    let base = rows::offset_of(index, r);
+    let end = label::end_at(index, base, p);
+    if refused(depth, inner, start, end) {
+        return over(true);
+    }
+    places[r] = p + 1;
+    let after = tournament::key_of(index, r, p + 1);
+    tournament::put(tree, m, r, after);
+    opened(depth, start, end)
+}
+
+// The lists' cursors before the first turn.
+fn first_places() -> [usize; Index::MOST_TAGS]
+    ensures { λ r. ⌜ r ≡ replicate mostTags 0 ⌝ }
+{
+    [0; Index::MOST_TAGS]
+}
+
+// The sweep: it owns the table, and lends it to `push` and `pop`.
+fn sweep(index: &[u8], m: usize) -> bool
+    requires { ⌜ Placed (now index) × Ordered (listsOf (now index)) × (m ≡ tags (now index)) × (0 < m) ⌝ }
+    ensures { λ r. ⌜ Decides (WrongNesting (now (index .entry))) r ⌝ }
+{
+    let mut tree = tournament::first_keys(index, m);
+    let mut places = first_places();
+    let mut starts = open::none();
+    let mut ends = open::none();
+    let mut s = closed(0);
+    while s.going {
+        s = judge(index, m, &mut tree, &mut places, s);
+        if s.put {
+            open::push(&mut starts, &mut ends, s.at, s.inner);
+        } else {
+            s.inner = open::pop(&starts, &ends, s.at);
+        }
+    }
+    s.wrong
+}
+
+// Whether two labels share a number or cross, or 65 are nested.
+pub fn nesting_wrong(index: &[u8]) -> bool
+    requires { ⌜ Placed (now index) × Ordered (listsOf (now index)) ⌝ }
+    ensures { λ r. ⌜ Decides (WrongNesting (now (index .entry))) r ⌝ }
+{
+    let m = rows::tags_of(index);
+    if m == 0 {
+        return false;
+    }
+    sweep(index, m)
+}

@@ -1,0 +1,100 @@
+// The tournament of the lists' next starts: it says which list has the least, and after that list has moved on only the nodes above it
+// are played again. Number r of the m that play is list r's key, its next start and then r; node i holds the lesser of nodes 2i and 2i + 1.
+ghost use mathlib.Core.Path.{_≡_};
+ghost use Prim.Native.Nat.{_/_, _%_, _<_, _≤_};
+ghost use lib.ListN.{replicate};
+ghost use Rattle.meaning.specs.Limits.{mostTags};
+ghost use Rattle.meaning.specs.Day.{tags, listsOf};
+ghost use Rattle.day.specs.Parts.{Placed};
+ghost use Rattle.day.specs.Tournament.{Lesser, Tree, Put, Key, Keys, nodes, past};
+use super::rows;
+use meaning::Index;
+
+// How many places a tournament has.
+pub const NODES: usize = 2 * Index::MOST_TAGS;
+
+// Where the least number stands.
+pub const ROOT: usize = 1;
+
+// How many keys there are for each start.
+const LISTS: u64 = Index::MOST_TAGS as u64;
+
+// How many 32-bit numbers there are.
+const NUMBERS: u64 = 4_294_967_296;
+
+// One past all keys: the key of a list that is done.
+pub const PAST: u64 = NUMBERS * LISTS;
+
+// The lesser of two numbers.
+fn lesser(a: u64, b: u64) -> u64
+    ensures { λ r. ⌜ Lesser r a b ⌝ }
+{
+    if a <= b { a } else { b }
+}
+
+// Number `leaf` becomes `key`, and the nodes above it are played again.
+pub fn put(tree: &mut [u64; NODES], m: usize, leaf: usize, key: u64)
+    requires { ⌜ (m ≤ mostTags) × (leaf < m) × Tree m (now tree) ⌝ }
+    ensures { λ r. ⌜ Put m leaf key (now (tree .entry)) (now (tree .exit)) ⌝ }
+{
+    let mut i = m + leaf;
+    tree[i] = key;
+    i = i / 2;
+    while 0 < i {
+        let a = tree[2 * i];
+        let b = tree[2 * i + 1];
+        tree[i] = lesser(a, b);
+        i = i / 2;
+    }
+}
+
+// The key of list r at position p.
+pub fn key_of(index: &[u8], r: usize, p: usize) -> u64
+    requires { ⌜ Placed (now index) × (r < tags (now index)) ⌝ }
+    ensures { λ v. ⌜ Key (listsOf (now (index .entry))) r p v ⌝ }
+{
+    let n = rows::count_of(index, r);
+    if n <= p {
+        return PAST;
+    }
+    let base = rows::offset_of(index, r);
+    let start = label::start_at(index, base, p);
+    LISTS * (start as u64) + (r as u64)
+}
+
+// The start that a key has.
+pub fn start_of(key: u64) -> u32
+    requires { ⌜ key < past ⌝ }
+    ensures { λ r. ⌜ r ≡ key / mostTags ⌝ }
+{
+    (key / LISTS) as u32
+}
+
+// The list that a key names.
+pub fn list_of(key: u64) -> usize
+    ensures { λ r. ⌜ (r ≡ key % mostTags) × (r < mostTags) ⌝ }
+{
+    (key % LISTS) as usize
+}
+
+// A tournament of numbers that are all past every key.
+fn blank() -> [u64; NODES]
+    ensures { λ r. ⌜ r ≡ replicate nodes past ⌝ }
+{
+    [PAST; NODES]
+}
+
+// The tournament of the lists' first labels.
+pub fn first_keys(index: &[u8], m: usize) -> [u64; NODES]
+    requires { ⌜ Placed (now index) × (m ≡ tags (now index)) ⌝ }
+    ensures { λ t. ⌜ Keys (listsOf (now (index .entry))) (λ r. 0) t ⌝ }
+{
+    let mut tree = blank();
+    let mut r = 0;
+    while r < m {
+        let key = key_of(index, r, 0);
+        put(&mut tree, m, r, key);
+        r += 1;
+    }
+    tree
+}

@@ -1,0 +1,2 @@
+-- How far a name reaches in a text.
+pub mod Runs

@@ -1,0 +1,137 @@
+-- The plan of a tree over a lawful index: it fits, and agrees with the question of the tree.
+use Prim.Native.Nat.{ℕ, _+_, _*_, _≤_, _<_}
+use native.Mathlib.Omega.{arith}
+use borrow.Author.Tests.{eq-eqb, ne-eqb}
+use mathlib.Core.Path.{_≡_, refl, sym, ap, subst, _∙_}
+use mathlib.Core.Logic.{_⊎_, _≢_, ⊎-elim}
+use mathlib.Core.List.{List}
+use lib.ListN.{length, getD, set, replicate, length-set}
+use Rattle.meaning.specs.declared.Label.{Label}
+use Rattle.meaning.specs.declared.Body.{Body}
+use Rattle.meaning.specs.declared.Question.{Question}
+use Rattle.meaning.specs.Limits.{mostSteps, mostLabels}
+use Rattle.meaning.specs.Labels.{Inside, Apart}
+use Rattle.meaning.specs.Day.{tags, offset, count, total, labelAt, listOf}
+use Rattle.meaning.specs.Notation.{Path, Hook, nothing, from, steps, returnedStep}
+use Rattle.meaning.specs.Picks.{Asked, asked, stepAt, at}
+use Rattle.meaning.specs.Refusals.{Lawful}
+use Rattle.meaning.proofs.Decide.{or-not, lt-decides}
+use Rattle.meaning.proofs.Laws.Day.{Fit, lawful-fit, list-of-row, list-small}
+use Rattle.meaning.proofs.Laws.Step.{hook-upward}
+use Rattle.meaning.proofs.Laws.Promise.{lawful-small}
+use Rattle.question.specs.Stored.{hookNumber, questionOf, blankStep}
+use Rattle.question.proofs.StoredSteps.{StoredAs, stored-step}
+use Rattle.answer.specs.Plan.{hookOf, planOf, Planned, Drawn, Asks, Draws}
+use Rattle.answer.proofs.Turns.{hook-from, hook-nothing}
+use Rattle.answer.proofs.Moves.{set-cases}
+use Rattle.answer.proofs.Paging.{zeros}
+use Rattle.answer.proofs.Agreeing.{Agree, agree-back}
+
+-- A hook is found again from its number, if a step's number is below 255.
+hook-again : (h : Hook) → ((u : ℕ) → h ≡ from u → u < 255) → hookOf (hookNumber h) ≡ h
+hook-again nothing small = hook-nothing 255 refl
+hook-again (from u) small = hook-from u (λ e. omega (arith, small u refl))
+
+-- Two questions that agree are both fit, if the second has no records behind its steps.
+pub fit-agree : (a b : Asked) → Agree a b → Fit a → ((s : ℕ) → a .steps ≤ s → b .count s ≡ 0) → Fit b
+fit-agree a b g fit blank = record {
+  returned-lt = omega (arith, g .returned, g .steps, fit .returned-lt);
+  upward = λ s u l e. let k : s < a .steps = omega (arith, g .steps) in fit .upward s u k (g .hook s k ∙ e);
+  ordered = λ s i l. let k : s < a .steps = inside s i l in subst (λ (z : Label). z .start < z .end) (g .label s i k) (fit .ordered s i (omega (arith, g .count s k)));
+  ascending = λ s i j ij l.
+      let k : s < a .steps = inside s j l in
+      let up = fit .ascending s i j ij (omega (arith, g .count s k)) in
+      omega (arith, up, ap (λ (z : Label). z .start) (g .label s i k), ap (λ (z : Label). z .start) (g .label s j k));
+  laminar = λ s i u j il jl.
+      let k : s < a .steps = inside s i il in
+      let m : u < a .steps = inside u j jl in
+      subst (λ (z : Label). Related z (b .label u j)) (g .label s i k) (subst (λ (z : Label). Related (a .label s i) z) (g .label u j m) (fit .laminar s i u j (omega (arith, g .count s k)) (omega (arith, g .count u m))));
+}
+  where
+    Related : Label → Label → Type 0
+    Related z w = (z ≡ w) ⊎ Inside z w ⊎ Inside w z ⊎ Apart z w
+
+    -- Where there is a record there is a step.
+    inside : (s i : ℕ) → i < b .count s → s < a .steps
+    inside s i l = ⊎-elim (λ h. h) (λ n. absurd (omega (arith, blank s (omega arith)))) (or-not (lt-decides s (a .steps)))
+
+module _ (b : List ℕ) (p : Path) (k ret : ℕ) (hangs offsets counts : List ℕ) (law : Lawful b) (few : steps p ≤ mostSteps) (d : Drawn b p k ret hangs offsets counts) where
+  -- The question of the tree and the plan agree.
+  pub drawn-agrees : Agree (asked b p) (planOf b k ret hangs offsets counts)
+  unfolding asked planOf
+  drawn-agrees = record {
+    steps = sym (d .k-is);
+    returned = sym (d .ret-is);
+    hook = λ s l. sym (ap hookOf (d .hangs-are s l) ∙ hook-again (stepAt p s .hook) (λ u e. omega (arith, hook-upward p s u l e)));
+    count = λ s l. sym (d .counts-are s l);
+    label = λ s i l. ap (λ (o : ℕ). labelAt b o i) (sym (d .offsets-are s l));
+  }
+
+  pub drawn-fit : Fit (planOf b k ret hangs offsets counts)
+  unfolding asked planOf
+  drawn-fit = fit-agree (asked b p) (planOf b k ret hangs offsets counts) drawn-agrees (lawful-fit b p law) (d .blank)
+
+  -- Each list lies within a lawful index, of which the rows' lists are known to.
+  module _ (held : (n : List ℕ) → listOf b n .offset + 8 * listOf b n .count ≤ length b) where
+    pub drawn-planned : Planned b k ret hangs offsets counts
+    drawn-planned = record {
+      few = omega (arith, d .k-is);
+      held = λ s l. let m : s < steps p = omega (arith, d .k-is) in omega (arith, d .offsets-are s m, d .counts-are s m, held (stepAt p s .name));
+      small = λ s l. let m : s < steps p = omega (arith, d .k-is) in omega (arith, d .counts-are s m, list-small b (stepAt p s .name), lawful-small b law);
+      fit = drawn-fit;
+    }
+
+-- The loop of `draw`: the first s steps are in the arrays, and blank entries stand behind them.
+pub record Drawing (b : List ℕ) (p : Path) (s : ℕ) (hangs offsets counts : List ℕ) : Type 0 where
+  pub s-le : s ≤ steps p
+  pub hangs-long : length hangs ≡ 32
+  pub offsets-long : length offsets ≡ 32
+  pub counts-long : length counts ≡ 32
+  pub hangs-are : (j : ℕ) → j < s → at hangs j ≡ hookNumber (stepAt p j .hook)
+  pub offsets-are : (j : ℕ) → j < s → at offsets j ≡ listOf b (stepAt p j .name) .offset
+  pub counts-are : (j : ℕ) → j < s → at counts j ≡ listOf b (stepAt p j .name) .count
+  pub blank : (j : ℕ) → s ≤ j → at counts j ≡ 0
+
+pub draw-begin : (b : List ℕ) (p : Path) (hangs offsets counts : List ℕ) → hangs ≡ replicate 32 0 → offsets ≡ replicate 32 0 → counts ≡ replicate 32 0 → Drawing b p 0 hangs offsets counts
+draw-begin b p hangs offsets counts h o c = record {
+  s-le = omega arith;
+  hangs-long = rw h refl;
+  offsets-long = rw o refl;
+  counts-long = rw c refl;
+  hangs-are = λ j l. absurd (omega arith);
+  offsets-are = λ j l. absurd (omega arith);
+  counts-are = λ j l. absurd (omega arith);
+  blank = λ j l. rw c (zeros 32 j);
+}
+
+-- One step more.
+pub draw-on : (b : List ℕ) (p : Path) (s : ℕ) (hangs offsets counts : List ℕ) (hook : ℕ) (body : Body) → Drawing b p s hangs offsets counts → s < steps p → s < 32
+    → hook ≡ hookNumber (stepAt p s .hook) → body ≡ listOf b (stepAt p s .name) → Drawing b p (s + 1) (set hangs s hook) (set offsets s (body .offset)) (set counts s (body .count))
+draw-on b p s hangs offsets counts hook body w l m h e = record {
+  s-le = omega arith;
+  hangs-long = simp length-set (w .hangs-long);
+  offsets-long = simp length-set (w .offsets-long);
+  counts-long = simp length-set (w .counts-long);
+  hangs-are = set-cases (λ j x. j < s + 1 → x ≡ hookNumber (stepAt p j .hook)) hangs s hook (omega (arith, w .hangs-long)) (λ _. h) (λ j n k. w .hangs-are j (before j n k));
+  offsets-are = set-cases (λ j x. j < s + 1 → x ≡ listOf b (stepAt p j .name) .offset) offsets s (body .offset) (omega (arith, w .offsets-long)) (λ _. ap (λ (z : Body). z .offset) e) (λ j n k. w .offsets-are j (before j n k));
+  counts-are = set-cases (λ j x. j < s + 1 → x ≡ listOf b (stepAt p j .name) .count) counts s (body .count) (omega (arith, w .counts-long)) (λ _. ap (λ (z : Body). z .count) e) (λ j n k. w .counts-are j (before j n k));
+  blank = set-cases (λ j x. s + 1 ≤ j → x ≡ 0) counts s (body .count) (omega (arith, w .counts-long)) (λ k. absurd (omega arith)) (λ j n k. w .blank j (omega arith));
+}
+  where
+    before : (j : ℕ) → j ≢ s → j < s + 1 → j < s
+    before j n k = omega arith
+
+-- All steps are in the arrays.
+pub draw-end : (b : List ℕ) (p : Path) (s k ret : ℕ) (hangs offsets counts : List ℕ) → Drawing b p s hangs offsets counts → k ≡ steps p → k ≤ s → ret ≡ returnedStep p → Drawn b p k ret hangs offsets counts
+draw-end b p s k ret hangs offsets counts w e l r = record {
+  k-is = e;
+  ret-is = r;
+  hangs-are = λ j m. w .hangs-are j (omega arith);
+  offsets-are = λ j m. w .offsets-are j (omega arith);
+  counts-are = λ j m. w .counts-are j (omega arith);
+  blank = λ j m. w .blank j (omega (arith, w .s-le));
+}
+
+-- A step of a question that was read: where its name stands, that it is the tree's, and what it hangs from.
+pub asked-step : (text : List ℕ) (q : Question) (a : Asks text q) (s : ℕ) → s < steps (a .writes .tree) → StoredAs text (getD (q .steps) s blankStep) (stepAt (a .writes .tree) s)
+asked-step text q a s l = subst (λ (x : Question). StoredAs text (getD (x .steps) s blankStep) (stepAt (a .writes .tree) s)) (sym (a .is)) (stored-step (a .writes) s l)

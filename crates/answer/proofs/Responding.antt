@@ -1,0 +1,78 @@
+-- From what the parts of a call promise to the promise of the call.
+use Prim.Native.Nat.{ℕ, _/_, _≤_, _<_}
+use native.Mathlib.Omega.{arith}
+use mathlib.Core.Path.{_≡_, refl, sym, ap, subst, _∙_}
+use mathlib.Core.Logic.{inl, inr, _≢_, ⊎-elim}
+use mathlib.Core.Bool.{Bool, true, false}
+use mathlib.Core.List.{List}
+use lib.ListN.{length}
+use Rattle.meaning.specs.declared.Page.{Page}
+use Rattle.meaning.specs.Limits.{mostSteps}
+use Rattle.meaning.specs.Notation.{Follows, steps}
+use Rattle.meaning.specs.Picks.{Asked, Evidence, asked}
+use Rattle.meaning.specs.Pages.{Paged, Refused, Position, answerRoom, evidenceRoom, TooMany}
+use Rattle.meaning.specs.Refusals.{Table, end, row, Given, Clear, clear, given, Lawful, checkTable, questionTable, callTable}
+use Rattle.meaning.specs.Promises.{Checked, refused, page}
+use Rattle.meaning.proofs.Decide.{or-not, le-decides}
+use Rattle.meaning.proofs.Laws.Table.{Rising, above, given-applies, given-first, given-after, clear-both}
+use Rattle.meaning.proofs.Laws.Promise.{never-too-many}
+use Rattle.question.specs.declared.Reading.{Reading}
+use Rattle.question.specs.Promise.{ReadAs, readTable}
+use Rattle.question.specs.Promise as reading
+use Rattle.answer.specs.Plan.{planOf, Asks, Draws}
+use Rattle.answer.specs.Rows.{PartOf}
+use Rattle.answer.specs.Response.{Responds}
+use Rattle.answer.proofs.Ending.{answer-page, evidence-page}
+
+-- The result of a refusal.
+abbrev pub refusal : ℕ → Page
+refusal n = record { refusal = n; rows = 0; more = false; next = 0 }
+
+-- A call refuses with the number that its table gives, and changes nothing.
+refuses : (whole : Bool) (b text : List ℕ) (place : ℕ) (entry : List ℕ) (n : ℕ) → Given (callTable b text) n → Responds whole b text place entry entry (refusal n)
+refuses true b text place entry n g = refused g (record { buffer = refl; refusal = refl; rows = refl; more = refl; next = refl })
+refuses false b text place entry n g = refused g (record { buffer = refl; refusal = refl; rows = refl; more = refl; next = refl })
+
+-- The index is refused.
+pub refuse-index : (whole : Bool) (b text : List ℕ) (place : ℕ) (entry : List ℕ) (n : ℕ) (r : Page) → Checked b n → n ≢ 0 → r ≡ refusal n → Responds whole b text place entry entry r
+refuse-index whole b text place entry n r (clear c) some e = absurd (some refl)
+refuse-index whole b text place entry n r (given g) some e =
+    subst (λ (x : Page). Responds whole b text place entry entry x) (sym e) (refuses whole b text place entry n (given-first (checkTable b) (questionTable b text) n g))
+
+-- The row of the question's table that the reader does not know.
+abbrev lastRow : List ℕ → List ℕ → Table
+lastRow b text = row 10 (TooMany b text) end
+
+-- The question is refused.
+pub refuse-text : (whole : Bool) (b text : List ℕ) (place : ℕ) (entry : List ℕ) (q : Reading) (r : Page) → Lawful b → ReadAs text q → q .refusal ≢ 0 → r ≡ refusal (q .refusal) → Responds whole b text place entry entry r
+refuse-text whole b text place entry q r law (reading.refused {n} g e) some f =
+    subst (λ (x : Page). Responds whole b text place entry entry x) (sym (f ∙ ap (λ (x : Reading). refusal (x .refusal)) e))
+    (refuses whole b text place entry n (given-after (checkTable b) (questionTable b text) n law (given-first (readTable text) (lastRow b text) n g)))
+refuse-text whole b text place entry q r law (reading.read c f e) some g = absurd (some (ap (λ (x : Reading). x .refusal) e))
+
+-- The question was read.
+pub record Heard (text : List ℕ) (q : Reading) : Type 0 where
+  pub clear : Clear (readTable text)
+  pub asks : Asks text (q .question)
+
+read-rising : (text : List ℕ) → Rising 0 (readTable text)
+read-rising text = (omega arith, (omega arith, (omega arith, tt)))
+
+pub heard : (text : List ℕ) (q : Reading) → ReadAs text q → q .refusal ≡ 0 → Heard text q
+heard text q (reading.refused {n} g e) zero = absurd (omega (arith, above (readTable text) 0 (read-rising text) n (given-applies (readTable text) n g), ap (λ (x : Reading). x .refusal) e))
+heard text q (reading.read c f e) zero = record { clear = c; asks = record { writes = f; few = few; is = ap (λ (x : Reading). x .question) e } }
+  where
+    few : steps (f .tree) ≤ mostSteps
+    few = ⊎-elim (λ l. l) (λ n. absurd (c .1 .1 .0 (f, inl (omega arith)))) (or-not (le-decides (steps (f .tree)) mostSteps))
+
+module _ (b text : List ℕ) (law : Lawful b) (c : Clear (readTable text)) (k ret : ℕ) (hangs offsets counts : List ℕ) (d : Draws b text k ret hangs offsets counts)
+    (place : ℕ) (entry exit : List ℕ) (r : Page) where
+  nothing-refused : Clear (callTable b text)
+  nothing-refused = clear-both (checkTable b) (questionTable b text) law (clear-both (readTable text) (lastRow b text) c (never-too-many b text law, tt))
+
+  -- The engine's page of whole rows is what the evidence call promises, and of the returned step alone what the answer call promises.
+  pub give-evidence : (whole : Bool) → whole ≡ true → Paged (planOf b k ret hangs offsets counts) (PartOf (planOf b k ret hangs offsets counts) 0 k) place (length entry / k) entry exit r → Responds whole b text place entry exit r
+  give-evidence whole e x = subst (λ (w : Bool). Responds w b text place entry exit r) (sym e) (page nothing-refused (d .writes) (evidence-page b (d .writes .tree) k ret hangs offsets counts law (d .few) (d .drawn) place entry exit r x))
+
+  pub give-answer : (whole : Bool) → whole ≡ false → Paged (planOf b k ret hangs offsets counts) (PartOf (planOf b k ret hangs offsets counts) ret 1) place (length entry / 1) entry exit r → Responds whole b text place entry exit r
+  give-answer whole e x = subst (λ (w : Bool). Responds w b text place entry exit r) (sym e) (page nothing-refused (d .writes) (answer-page b (d .writes .tree) k ret hangs offsets counts law (d .few) (d .drawn) place entry exit r x))

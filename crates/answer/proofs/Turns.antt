@@ -1,0 +1,153 @@
+-- The turns of `settle`'s loop: what each way round it keeps, over the lent arrays of a plan.
+use Prim.Native.Nat.{ℕ, suc, _+_, _*_, _-_, _≤_, _<_}
+use native.Mathlib.Nat.{le-antisymm}
+use native.Mathlib.Omega.{arith}
+use borrow.Author.Tests.{eq-eqb, ne-eqb}
+use mathlib.Core.Path.{_≡_, refl, ap, subst}
+use mathlib.Core.Bool.{true, false, cond}
+use mathlib.Core.List.{List}
+use lib.Dec.{eqb}
+use lib.ListN.{length, set, length-set}
+use Rattle.meaning.specs.Day.{labelAt}
+use Rattle.meaning.specs.Notation.{Hook, nothing, from}
+use Rattle.meaning.specs.Picks.{Asked, at}
+use Rattle.meaning.proofs.Decide.{at-least}
+use Rattle.label.specs.Started.{Ascends, Started}
+use Rattle.answer.specs.Plan.{hookOf, planOf, Planned}
+use Rattle.answer.specs.Cursors.{LeastPick, NoPick, Touches, Held}
+use Rattle.answer.proofs.Moves.{Settling, settle-on, jump, back, settled, begin, none-past, left, left-falls}
+
+-- The number 255 is nothing.
+pub hook-nothing : (n : ℕ) → n ≡ 255 → hookOf n ≡ nothing
+unfolding hookOf
+hook-nothing n e = simp (eq-eqb n 255 e)
+
+-- Any other number is a step's.
+pub hook-from : (n : ℕ) → (n ≡ 255 → ⊥) → hookOf n ≡ from n
+unfolding hookOf
+hook-from n e = simp (ne-eqb n 255 e)
+
+-- What hangs from nothing hangs from no step.
+not-both : (h : Hook) (u : ℕ) → h ≡ nothing → h ≡ from u → ⊥
+not-both h u e f = let z : _≡_ {A = ℕ} 0 1 = cc in omega arith
+
+-- A step hangs from one step at most.
+one-hook : (h : Hook) (u v : ℕ) → h ≡ from u → h ≡ from v → u ≡ v
+one-hook h u v e f = cc
+
+-- The loop's invariant: the cursors xs, of which those below step s are settled.
+pub record Turn (a : Asked) (low : ℕ → ℕ) (xs : List ℕ) (s : ℕ) : Type 0 where
+  pub len : length xs ≡ 32
+  pub s-le : s ≤ a .steps
+  pub st : Settling a low xs s
+
+-- What falls with each turn: what is left of the lists, and then the steps to come.
+abbrev pub μ : Asked → List ℕ → ℕ → ℕ
+μ a xs s = 33 * left (a .count) xs (a .steps) + (32 - s)
+
+module _ (b : List ℕ) (k ret : ℕ) (hangs offsets counts : List ℕ) (plan : Planned b k ret hangs offsets counts) where
+  abbrev a : Asked
+  a = planOf b k ret hangs offsets counts
+
+  pub turn-begin : (xs : List ℕ) (s : ℕ) → length xs ≡ 32 → s ≤ k → Held a (at xs) s → Turn a (at xs) xs s
+  unfolding planOf
+  turn-begin xs s l sk h = record { len = l; s-le = sk; st = begin a (plan .fit) (at xs) xs s (λ j. refl) h }
+
+  pub turn-end : (low : ℕ → ℕ) (xs : List ℕ) (s : ℕ) → Turn a low xs s → k ≤ s → LeastPick a low (at xs)
+  unfolding planOf
+  turn-end low xs s w l = settled a (plan .fit) low xs (subst (λ (n : ℕ). Settling a low xs n) (le-antisymm (w .s-le) l) (w .st))
+
+  module _ (low : ℕ → ℕ) (xs : List ℕ) (s : ℕ) (w : Turn a low xs s) (sk : s < k) where
+    pub turn-none : at counts s ≤ at xs s → NoPick a low
+    unfolding planOf
+    turn-none l = none-past a (plan .fit) low xs s (w .st) sk l
+
+    -- The cursor of step s is in range.
+    module _ (room : at xs s < at counts s) where
+      pub on-less : μ a xs (s + 1) < μ a xs s
+      unfolding planOf
+      on-less = omega (arith, plan .few)
+
+      -- The step hangs from nothing.
+      pub turn-free : at hangs s ≡ 255 → Turn a low xs (s + 1)
+      unfolding planOf
+      turn-free e = record {
+        len = w .len;
+        s-le = omega arith;
+        st = settle-on a (plan .fit) low xs s (w .st) room (λ u f. absurd (not-both (hookOf (at hangs s)) u (hook-nothing (at hangs s) e) f));
+      }
+
+      -- The step hangs from step u.
+      module _ (u : ℕ) (u-is : u ≡ at hangs s) (some : at hangs s ≡ 255 → ⊥) where
+        hook : hookOf (at hangs s) ≡ from u
+        hook = subst (λ (n : ℕ). hookOf (at hangs s) ≡ from n) (omega arith) (hook-from (at hangs s) some)
+
+        pub up-lt : u < s
+        unfolding planOf
+        up-lt = plan .fit .upward s u sk hook
+
+        pub above-room : at xs u < at counts u
+        unfolding planOf
+        above-room = w .st .held .ranged u up-lt
+
+        pub above-held : at offsets u + 8 * at xs u + 8 ≤ length b
+        above-held = omega (arith, plan .held u (omega (arith, up-lt)), above-room)
+
+        pub ascends : Ascends b (at offsets s) (at counts s)
+        unfolding planOf
+        ascends i j = plan .fit .ascending s i j
+
+        -- The record starts at or before the record above it, and r is the first that starts later.
+        module _ (r : ℕ) (early : labelAt b (at offsets s) (at xs s) .start ≤ labelAt b (at offsets u) (at xs u) .start)
+            (found : Started b (at offsets s) (at counts s) (labelAt b (at offsets u) (at xs u) .start) r) where
+          raised : at xs s < r
+          raised = at-least {P = λ j. j ≡ r} (suc (at xs s)) (λ j l e. omega (arith, found .rest (at xs s) (omega arith) room)) r refl
+
+          pub turn-jump : Turn a low (set xs s r) s
+          unfolding planOf
+          turn-jump = record {
+            len = simp length-set (w .len);
+            s-le = w .s-le;
+            st = jump a (plan .fit) low xs s u r (w .st) sk hook (omega (arith, w .len, plan .few)) raised (λ i l m. found .first i l);
+          }
+
+          pub jump-less : μ a (set xs s r) s < μ a xs s
+          unfolding planOf
+          jump-less = omega (arith, left-falls (at counts) xs k s r sk (omega (arith, w .len, plan .few)) raised room)
+
+        -- The record starts after the end of the record above it.
+        module _ (late : labelAt b (at offsets u) (at xs u) .end < labelAt b (at offsets s) (at xs s) .start) where
+          pub turn-back : Turn a low (set xs u (at xs u + 1)) u
+          unfolding planOf
+          turn-back = record {
+            len = simp length-set (w .len);
+            s-le = omega (arith, up-lt);
+            st = back a (plan .fit) low xs s u (w .st) sk hook (omega (arith, w .len, plan .few)) late;
+          }
+
+          pub back-less : μ a (set xs u (at xs u + 1)) u < μ a xs s
+          unfolding planOf
+          back-less = omega (arith, up-lt, plan .few, left-falls (at counts) xs k u (at xs u + 1) (omega (arith, up-lt)) (omega (arith, up-lt, w .len, plan .few)) (omega arith) above-room)
+
+        -- It starts within that record.
+        pub turn-on : labelAt b (at offsets u) (at xs u) .start < labelAt b (at offsets s) (at xs s) .start
+            → labelAt b (at offsets s) (at xs s) .start ≤ labelAt b (at offsets u) (at xs u) .end → Turn a low xs (s + 1)
+        unfolding planOf
+        turn-on after reached = record {
+          len = w .len;
+          s-le = omega arith;
+          st = settle-on a (plan .fit) low xs s (w .st) room touch;
+        }
+          where
+            touch : (v : ℕ) → hookOf (at hangs s) ≡ from v → Touches a (at xs) s v
+            touch v f = subst (λ (n : ℕ). Touches a (at xs) s n) (one-hook (hookOf (at hangs s)) u v hook f) (record { after = after; reached = reached })
+
+-- The returned step of a plan is one of its steps.
+pub ret-of : (b : List ℕ) (k ret : ℕ) (hangs offsets counts : List ℕ) → Planned b k ret hangs offsets counts → ret < k
+unfolding planOf
+ret-of b k ret hangs offsets counts plan = plan .fit .returned-lt
+
+-- What is at most the number of a plan's steps is at most k.
+pub steps-of : (b : List ℕ) (k ret : ℕ) (hangs offsets counts : List ℕ) {n : ℕ} → n ≤ planOf b k ret hangs offsets counts .steps → n ≤ k
+unfolding planOf
+steps-of b k ret hangs offsets counts l = l

@@ -1,0 +1,102 @@
+use Prim.Native.Nat.{ℕ, suc, _+_, _*_, _-_, _≤_, _<_}
+use mathlib.Core.Path.{_≡_, refl, sym, ap, _∙_, subst}
+use mathlib.Core.List.{List}
+use native.Mathlib.Nat.{le-antisymm}
+use native.Mathlib.Numerals.{add-one}
+use native.Mathlib.Omega.{arith}
+use borrow.Author.Needs.{needs}
+use lib.ListN.{length, getD, set, drop, length-set, length-drop}
+use lib.Seq.{paste, paste-zero, paste-suc, getD-drop}
+use Rattle.answer.proofs.pages.put_row.Statement.{statement}
+use Rattle.answer.proofs.pages.put_row.Tie as tie
+use Rattle.answer.proofs.pages.put_row.Reads as reads
+use Rattle.answer.proofs.pages.put_row.Lts as lts
+
+abbrev Inv-loop : tie.InvT-loop
+Inv-loop out₀ to pos step width j₀ out j = (j ≤ width) × (length out ≡ length out₀) × (out ≡ paste out₀ to (drop step pos) j)
+
+abbrev μ-loop : tie.MeasureT-loop
+μ-loop out₀ to pos step width j₀ out j = width - j
+
+-- src/pages.rt:30:5
+loop-holds : tie.Need-loop-holds Inv-loop μ-loop
+loop-holds c = (omega arith, refl, paste-zero (c .args .out .now) (c .args .to) (drop (c .args .step) (c .args .pos .now)))
+
+-- src/pages.rt:31:21
+add-p : tie.Need-add-p Inv-loop μ-loop
+add-p c = search needs
+
+-- src/pages.rt:31:17
+mul-p : tie.Need-mul-p Inv-loop μ-loop
+mul-p c = search needs
+
+-- src/pages.rt:31:17
+element-copy-out-p : tie.Need-element-copy-out-p Inv-loop μ-loop
+element-copy-out-p c = search needs
+
+-- src/pages.rt:32:23
+cast-out : tie.Need-cast-out Inv-loop μ-loop
+cast-out c = let t = c .before .before .before in record { fits = omega (arith, t .pre .3 (t .args .step + c .before .before .loop .j) (omega arith)) }
+
+-- src/pages.rt:32:13
+add-out : tie.Need-add-out Inv-loop μ-loop
+add-out c = search needs
+
+-- src/pages.rt:32:9
+mul-out : tie.Need-mul-out Inv-loop μ-loop
+mul-out c = search needs
+
+-- src/pages.rt:32:9
+slice-write-out : tie.Need-slice-write-out Inv-loop μ-loop
+slice-write-out c = search needs
+
+-- src/pages.rt:33:9
+add-j : tie.Need-add-j Inv-loop μ-loop
+add-j c = search needs
+
+-- src/pages.rt:30:5
+loop-less : tie.Need-loop-less Inv-loop μ-loop
+loop-less c = search needs
+
+-- src/pages.rt:30:5
+loop-again : tie.Need-loop-again Inv-loop μ-loop
+loop-again c =
+    let t = c .before .before .before in
+    let l = c .before .before .loop in
+    let from : getD (drop (t .args .step) (t .args .pos .now)) (l .j) 0 ≡ getD (t .args .pos .now) (t .args .step + l .j) 0 = getD-drop (t .args .step) (t .args .pos .now) (l .j) 0 in (
+      omega arith,
+      simp length-set (l .inv .1),
+      rw (l .inv .2, ← from, add-one)
+          (paste-suc (t .args .out .now) (t .args .to) (drop (t .args .step) (t .args .pos .now)) (l .j) 0 (omega arith) (omega (arith, length-drop (t .args .step) (t .args .pos .now)))),
+    )
+
+-- src/pages.rt:25:1
+same-length : tie.Need-same-length Inv-loop μ-loop
+same-length c = search needs
+
+-- src/pages.rt:25:1
+returns : tie.Need-returns Inv-loop μ-loop
+returns c =
+    let t = c .before .before in
+    let j-is = le-antisymm (c .before .loop .inv .0) (c .loop-test .left) in
+    subst (λ (n : ℕ). c .before .loop .out ≡ paste (t .args .out .now) (t .args .to) (drop (t .args .step) (t .args .pos .now)) n) j-is (c .before .loop .inv .2)
+
+pub put-row-spec : {M : Type 1} → statement M
+put-row-spec =
+    tie.close
+    (tie.spec
+    Inv-loop
+    μ-loop
+    loop-holds
+    add-p
+    mul-p
+    element-copy-out-p
+    cast-out
+    add-out
+    mul-out
+    slice-write-out
+    add-j
+    loop-less
+    loop-again
+    same-length
+    returns)

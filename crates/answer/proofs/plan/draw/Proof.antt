@@ -1,0 +1,134 @@
+use Prim.Native.Nat.{ℕ, _+_, _-_, _≤_, _<_}
+use native.Mathlib.Omega.{arith}
+use borrow.Author.Needs.{needs}
+use mathlib.Core.Path.{_≡_, refl, sym, ap, _∙_}
+use mathlib.Core.List.{List}
+use lib.ListN.{length, getD}
+use Rattle.meaning.specs.declared.Question.{Question}
+use Rattle.meaning.specs.Day.{listOf}
+use Rattle.meaning.specs.Notation.{steps}
+use Rattle.meaning.specs.Picks.{stepAt}
+use Rattle.question.specs.Stored.{blankStep}
+use Rattle.question.proofs.StoredSteps.{StoredAs}
+use Rattle.answer.specs.Plan.{Asks, Draws}
+use Rattle.answer.proofs.Drawing.{Drawing, draw-begin, draw-on, draw-end, asked-step}
+use Rattle.answer.proofs.plan.draw.Statement.{statement}
+use Rattle.answer.proofs.plan.draw.Tie as tie
+use Rattle.answer.proofs.plan.draw.Reads as reads
+use Rattle.answer.proofs.plan.draw.Lts as lts
+use Rattle.answer.proofs.plan.zeros.Reads as zeros-reads
+use Rattle.day.proofs.find.Reads as find-reads
+use Rattle.question.proofs.name_of.Reads as name-of-reads
+
+abbrev Inv-loop : tie.InvT-loop
+Inv-loop index text question hangs₀ offsets₀ counts₀ count s₀ hangs offsets counts s =
+    (a : Asks text question) → Drawing index (a .writes .tree) s hangs offsets counts
+
+abbrev μ-loop : tie.MeasureT-loop
+μ-loop index text question hangs₀ offsets₀ counts₀ count s₀ hangs offsets counts s = count - s
+
+-- Where the function began, from a turn of the loop; what it was asked for; and that the turn's step is one of the question's.
+abbrev start : tie.In-loop Inv-loop μ-loop → tie.Start Inv-loop μ-loop
+start i = i .before .before .before .before .before .before .before
+
+abbrev asks : (i : tie.In-loop Inv-loop μ-loop) → Asks (start i .args .text .now) (start i .args .t3)
+asks i = start i .pre .1
+
+step-lt : (i : tie.In-loop Inv-loop μ-loop) (a : Asks (start i .args .text .now) (start i .args .t3)) → i .before .loop .s < steps (a .writes .tree)
+step-lt i a = omega (arith, i .loop-test .taken, ap (λ (q : Question). q .count) (a .is))
+
+small : (i : tie.In-loop Inv-loop μ-loop) → i .before .loop .s < 32
+small i = omega (arith, step-lt i (asks i), asks i .few)
+
+-- What is stored of that step.
+stored : (i : tie.In-loop Inv-loop μ-loop) (a : Asks (start i .args .text .now) (start i .args .t3))
+    → StoredAs (start i .args .text .now) (getD (start i .args .t3 .steps) (i .before .loop .s) blankStep) (stepAt (a .writes .tree) (i .before .loop .s))
+stored i a = asked-step (start i .args .text .now) (start i .args .t3) a (i .before .loop .s) (step-lt i a)
+
+zeros-requires : tie.Need-zeros-requires Inv-loop μ-loop
+zeros-requires c κs = search needs
+
+zeros-requires-2 : tie.Need-zeros-requires-2 Inv-loop μ-loop
+zeros-requires-2 c κs = search needs
+
+zeros-requires-3 : tie.Need-zeros-requires-3 Inv-loop μ-loop
+zeros-requires-3 c κs = search needs
+
+loop-holds : tie.Need-loop-holds Inv-loop μ-loop
+loop-holds c = λ a. draw-begin _ _ _ _ _ (c .before .before .zeros .ensures) (c .before .zeros2 .ensures) (c .zeros3 .ensures)
+
+mul-step : tie.Need-mul-step Inv-loop μ-loop
+mul-step c = record { fits = omega (arith, small c) }
+
+element-copy-out-step : tie.Need-element-copy-out-step Inv-loop μ-loop
+element-copy-out-step c = small c
+
+name-of-requires : tie.Need-name-of-requires Inv-loop μ-loop
+name-of-requires c κs = stored (c .before) (asks (c .before)) .within
+
+find-requires : tie.Need-find-requires Inv-loop μ-loop
+find-requires c κs = search needs
+
+cast-hangs : tie.Need-cast-hangs Inv-loop μ-loop
+cast-hangs c = search needs
+
+mul-hangs : tie.Need-mul-hangs Inv-loop μ-loop
+mul-hangs c = record { fits = omega (arith, small (c .before .before .before .before)) }
+
+array-write-hangs : tie.Need-array-write-hangs Inv-loop μ-loop
+array-write-hangs c = small (c .before .before .before .before)
+
+mul-offsets : tie.Need-mul-offsets Inv-loop μ-loop
+mul-offsets c = record { fits = omega (arith, small (c .before .before .before .before)) }
+
+array-write-offsets : tie.Need-array-write-offsets Inv-loop μ-loop
+array-write-offsets c = small (c .before .before .before .before)
+
+mul-counts : tie.Need-mul-counts Inv-loop μ-loop
+mul-counts c = record { fits = omega (arith, small (c .before .before .before .before)) }
+
+array-write-counts : tie.Need-array-write-counts Inv-loop μ-loop
+array-write-counts c = small (c .before .before .before .before)
+
+add-s : tie.Need-add-s Inv-loop μ-loop
+add-s c = search needs
+
+loop-less : tie.Need-loop-less Inv-loop μ-loop
+loop-less c = search needs
+
+loop-again : tie.Need-loop-again Inv-loop μ-loop
+loop-again c =
+    let i = c .before .before .before .before in
+    λ a. draw-on _ _ _ _ _ _ _ _ (i .before .loop .inv a) (step-lt i a) (small i) (stored i a .hangs) (c .before .find .ensures ∙ ap (listOf (start i .args .index .now)) (c .before .before .name-of .ensures ∙ stored i a .name))
+
+returns : tie.Need-returns Inv-loop μ-loop
+returns c =
+    let s = c .before .before .before .before .before .before .before in
+    let a = s .pre .1 in
+    record { writes = a .writes; few = a .few; drawn = draw-end _ _ _ _ _ _ _ _ (c .before .loop .inv a) (ap (λ (q : Question). q .count) (a .is)) (c .loop-test .left) (ap (λ (q : Question). q .returned) (a .is)) }
+
+pub draw-spec : {M : Type 1} → statement M
+draw-spec =
+    tie.close
+    (tie.spec
+    Inv-loop
+    μ-loop
+    zeros-requires
+    zeros-requires-2
+    zeros-requires-3
+    loop-holds
+    mul-step
+    element-copy-out-step
+    name-of-requires
+    find-requires
+    cast-hangs
+    mul-hangs
+    array-write-hangs
+    mul-offsets
+    array-write-offsets
+    mul-counts
+    array-write-counts
+    add-s
+    loop-less
+    loop-again
+    returns)

@@ -1,0 +1,81 @@
+// One cursor for each step, and how they move. No cursor ever moves back, so that all moves of one page together are at most as many as
+// the lists of the question's steps have records.
+ghost use mathlib.Core.Path.{_≡_};
+ghost use Prim.Native.Nat.{ℕ, _+_, _*_, _<_, _≤_};
+ghost use lib.ListN.{length};
+ghost use Rattle.meaning.specs.Day.{labelAt};
+ghost use Rattle.meaning.specs.Picks.{at};
+ghost use Rattle.label.specs.Started.{Ascends};
+ghost use Rattle.answer.specs.Plan.{planOf, Planned};
+ghost use Rattle.answer.specs.Cursors.{Held, Settled};
+ghost use Rattle.answer.specs.Looking.{Looks};
+
+// Where a record starts, seen from a record that it is to lie in.
+pub enum Sight {
+    // At or before that record's start; the position of the first record of its list that starts later.
+    Early(usize),
+    // After that record's end.
+    Late,
+    // Within that record.
+    Within,
+}
+
+// Looks from record q of the body at `over` at record p of the n records of the body at `at`.
+fn look(index: &[u8], at: usize, n: usize, p: usize, over: usize, q: usize) -> Sight
+    requires { ⌜ (p < n) × (at + 8 * n ≤ length (now index)) × (over + 8 * q + 8 ≤ length (now index)) × Ascends (now index) at n ⌝ }
+    ensures { λ r. ⌜ Looks (now (index .entry)) at n p over q r ⌝ }
+{
+    let here = label::start_at(index, at, p);
+    let above = label::start_at(index, over, q);
+    if here <= above {
+        return Sight::Early(label::started(index, at, n, above));
+    }
+    let last = label::end_at(index, over, q);
+    if last < here {
+        return Sight::Late;
+    }
+    Sight::Within
+}
+
+// Moves the cursors on to the first pick at or after them, from step `first` on, below which no edge is broken. Says whether there is one.
+pub fn settle(
+    index: &[u8],
+    k: usize,
+    ret: usize,
+    hangs: &[usize; 32],
+    offsets: &[usize; 32],
+    counts: &[usize; 32],
+    pos: &mut [usize; 32],
+    first: usize,
+) -> bool
+    requires { ⌜ Planned (now index) k ret (now hangs) (now offsets) (now counts) × (first ≤ k) × (length (now pos) ≡ 32) × Held (planOf (now index) k ret (now hangs) (now offsets) (now counts)) (at (now pos)) first ⌝ }
+    ensures { λ r. ⌜ Settled (planOf (now (index .entry)) k ret (now (hangs .entry)) (now (offsets .entry)) (now (counts .entry))) (at (now (pos .entry))) r (now (pos .exit)) × (length (now (pos .exit)) ≡ 32) ⌝ }
+{
+    let mut s = first;
+    while s < k {
+        let p = pos[s];
+        let n = counts[s];
+        if n <= p {
+            return false;
+        }
+        let u = hangs[s];
+        if u == meaning::Step::NOTHING as usize {
+            s += 1;
+        } else {
+            let q = pos[u];
+            match look(index, offsets[s], n, p, offsets[u], q) {
+                Sight::Early(r) => {
+                    pos[s] = r;
+                }
+                Sight::Late => {
+                    pos[u] = q + 1;
+                    s = u;
+                }
+                Sight::Within => {
+                    s += 1;
+                }
+            }
+        }
+    }
+    true
+}

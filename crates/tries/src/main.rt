@@ -1,0 +1,195 @@
+// The rows of document 01's table that are not proved, and examples of the papers, run.
+// What each should give stands beside it, worked out by hand from the rules; `stdout` has the same.
+
+// Writes the first n of the numbers, each after a blank.
+fn numbers(out: &[u32], n: usize) {
+    let mut i = 0;
+    while i < n {
+        if i < out.len() {
+            io::write_all(1, b" ");
+            io::print_decimal(1, out[i] as u64);
+        }
+        i += 1;
+    }
+}
+
+// Writes a question with its positions, its evidence rows one after the other, whether more remain, and the next place.
+fn ask(index: &[u8], text: &[u8], steps: usize, place: u32) {
+    io::write_all(1, text);
+    io::write_all(1, b":");
+    let mut out = [0u32; 24];
+    let page = answer::answer(index, text, place, &mut out);
+    if page.refusal != 0 {
+        io::write_all(1, b" refused ");
+        io::print_decimal(1, page.refusal as u64);
+        io::write_all(1, b"\n");
+        return;
+    }
+    numbers(&out, page.rows);
+    io::write_all(1, b" evidence");
+    let shown = answer::evidence(index, text, place, &mut out);
+    if shown.rows <= 24 && steps <= 24 {
+        numbers(&out, shown.rows * steps);
+    }
+    if page.more {
+        io::write_all(1, b" more");
+    }
+    io::write_all(1, b" next ");
+    io::print_decimal(1, page.next as u64);
+    io::write_all(1, b"\n");
+}
+
+// Writes the number that the check gives.
+fn check(index: &[u8]) {
+    io::write_all(1, b"check ");
+    io::print_decimal(1, day::check(index) as u64);
+    io::write_all(1, b"\n");
+}
+
+// Writes the number that reading a question gives.
+fn read(text: &[u8]) {
+    io::write_all(1, b"read ");
+    io::print_decimal(1, question::read(text).refusal as u64);
+    io::write_all(1, b"\n");
+}
+
+// Writes the number that a call gives.
+fn refusal(index: &[u8], text: &[u8]) {
+    let mut out = [0u32; 24];
+    io::write_all(1, b"refused ");
+    io::print_decimal(1, answer::answer(index, text, 0, &mut out).refusal as u64);
+    io::write_all(1, b"\n");
+}
+
+// The small day of document 01: `board` 8:9, 22:23; `call` 1:20, 4:15, 7:12, 21:26, 27:28; `cancel` 2:3, 5:6.
+fn small_day() {
+    let day =
+        b"\x03\x00\x01\x00board\x00\x00\x00\x00\x00\x00\x00\x00\x00\x00\x00L\x00\x00\x00\x02\x00\x00\x00call\x00\x00\x00\x00\x00\x00\x00\x00\x00\x00\x00\x00\x5c\x00\x00\x00\x05\x00\x00\x00cancel\x00\x00\x00\x00\x00\x00\x00\x00\x00\x00\x84\x00\x00\x00\x02\x00\x00\x00\x08\x00\x00\x00\x09\x00\x00\x00\x16\x00\x00\x00\x17\x00\x00\x00\x01\x00\x00\x00\x14\x00\x00\x00\x04\x00\x00\x00\x0f\x00\x00\x00\x07\x00\x00\x00\x0c\x00\x00\x00\x15\x00\x00\x00\x1a\x00\x00\x00\x1b\x00\x00\x00\x1c\x00\x00\x00\x02\x00\x00\x00\x03\x00\x00\x00\x05\x00\x00\x00\x06\x00\x00\x00";
+    ask(day, b"//call[//cancel]//board", 3, 0);
+    ask(day, b"//call[//board]", 2, 0);
+    ask(day, b"//call[//cancel]", 2, 0);
+    ask(day, b"//call//call//call", 3, 0);
+    ask(day, b"//call//cancel//board", 3, 0);
+    ask(day, b"//call[//cancel][//cancel]", 3, 0);
+    ask(day, b"//call[//call[//cancel]]//board", 4, 0);
+    ask(day, b"//lobby", 1, 0);
+    // from place 9 on there is none, and the next place is the number of calls
+    ask(day, b"//call[//board]", 2, 9);
+    // a place of 4,294,967,295
+    ask(day, b"//call", 1, 4294967295);
+    // 1,025 bytes of anything
+    refusal(day, &[b'/'; 1025]);
+    // a broken index and a broken question: the index's number
+    refusal(b"\x00\x00\x02\x00", b"/call");
+    ask(b"\x00\x00\x01\x00", b"//call", 1, 0);
+}
+
+// Source 000: `figure` 139:146, 295:302, 319:326; `hidden` 138:147, 209:221, 282:303; `section` 5:60, 61:194, 106:156, 157:173, 281:304.
+// 139:146 lies in sections 61:194 and 106:156, of which 61:194 is the earlier; 295:302 lies in 281:304. Sections with a hidden part are
+// 61:194, 106:156 and 281:304. No section lies inside a hidden part: 281:304, which the paper names, lies around 282:303.
+fn article() {
+    let day =
+        b"\x03\x00\x01\x00figure\x00\x00\x00\x00\x00\x00\x00\x00\x00\x00L\x00\x00\x00\x03\x00\x00\x00hidden\x00\x00\x00\x00\x00\x00\x00\x00\x00\x00d\x00\x00\x00\x03\x00\x00\x00section\x00\x00\x00\x00\x00\x00\x00\x00\x00|\x00\x00\x00\x05\x00\x00\x00\x8b\x00\x00\x00\x92\x00\x00\x00'\x01\x00\x00.\x01\x00\x00?\x01\x00\x00F\x01\x00\x00\x8a\x00\x00\x00\x93\x00\x00\x00\xd1\x00\x00\x00\xdd\x00\x00\x00\x1a\x01\x00\x00/\x01\x00\x00\x05\x00\x00\x00<\x00\x00\x00=\x00\x00\x00\xc2\x00\x00\x00j\x00\x00\x00\x9c\x00\x00\x00\x9d\x00\x00\x00\xad\x00\x00\x00\x19\x01\x00\x000\x01\x00\x00";
+    ask(day, b"//section//figure", 2, 0);
+    ask(day, b"//section[//hidden]", 2, 0);
+    ask(day, b"//hidden[//section]//figure", 3, 0);
+}
+
+// The same with 283:294 for 281:304: now a section lies inside 282:303, and no section lies around it. 295:302 lies in no section, and the
+// sections with a hidden part are 61:194 and 106:156.
+fn other_article() {
+    let day =
+        b"\x03\x00\x01\x00figure\x00\x00\x00\x00\x00\x00\x00\x00\x00\x00L\x00\x00\x00\x03\x00\x00\x00hidden\x00\x00\x00\x00\x00\x00\x00\x00\x00\x00d\x00\x00\x00\x03\x00\x00\x00section\x00\x00\x00\x00\x00\x00\x00\x00\x00|\x00\x00\x00\x05\x00\x00\x00\x8b\x00\x00\x00\x92\x00\x00\x00'\x01\x00\x00.\x01\x00\x00?\x01\x00\x00F\x01\x00\x00\x8a\x00\x00\x00\x93\x00\x00\x00\xd1\x00\x00\x00\xdd\x00\x00\x00\x1a\x01\x00\x00/\x01\x00\x00\x05\x00\x00\x00<\x00\x00\x00=\x00\x00\x00\xc2\x00\x00\x00j\x00\x00\x00\x9c\x00\x00\x00\x9d\x00\x00\x00\xad\x00\x00\x00\x1b\x01\x00\x00&\x01\x00\x00";
+    ask(day, b"//section//figure", 2, 0);
+    ask(day, b"//section[//hidden]", 2, 0);
+    ask(day, b"//hidden[//section]//figure", 3, 0);
+}
+
+// Source 003's library, its tags numbered from 1: `library` 1:38; `book` 2:13, 14:37; `title` 3:4, 15:16; `author` 5:10, 17:22, 23:28,
+// 29:34. Each title lies in its book, and the first author of the second book is 17:22.
+fn library() {
+    let day =
+        b"\x04\x00\x01\x00author\x00\x00\x00\x00\x00\x00\x00\x00\x00\x00d\x00\x00\x00\x04\x00\x00\x00book\x00\x00\x00\x00\x00\x00\x00\x00\x00\x00\x00\x00\x84\x00\x00\x00\x02\x00\x00\x00library\x00\x00\x00\x00\x00\x00\x00\x00\x00\x94\x00\x00\x00\x01\x00\x00\x00title\x00\x00\x00\x00\x00\x00\x00\x00\x00\x00\x00\x9c\x00\x00\x00\x02\x00\x00\x00\x05\x00\x00\x00\x0a\x00\x00\x00\x11\x00\x00\x00\x16\x00\x00\x00\x17\x00\x00\x00\x1c\x00\x00\x00\x1d\x00\x00\x00\x22\x00\x00\x00\x02\x00\x00\x00\x0d\x00\x00\x00\x0e\x00\x00\x00%\x00\x00\x00\x01\x00\x00\x00&\x00\x00\x00\x03\x00\x00\x00\x04\x00\x00\x00\x0f\x00\x00\x00\x10\x00\x00\x00";
+    ask(day, b"//book[//author]//title", 3, 0);
+    ask(day, b"//library//author", 2, 0);
+}
+
+// Indexes that are refused, and that are not.
+fn indexes() {
+    check(b"\x00\x00\x02\x00");
+    check(b"\x01\x00\x01\x00");
+    check(b"\x00\x00\x01");
+    let days = nested();
+    // 64 nested, and 65
+    check(&days[..540]);
+    let mut more = days;
+    more[24] = 65;
+    check(&more);
+}
+
+// An index with the one list `call`, of 65 labels of which each but the first lies inside the one before; its row says 64, and 540 bytes are
+// the index with 64.
+fn nested() -> [u8; 548] {
+    let mut out = [0u8; 548];
+    out[0] = 1;
+    out[2] = 1;
+    out[4] = b'c';
+    out[5] = b'a';
+    out[6] = b'l';
+    out[7] = b'l';
+    out[20] = 28;
+    out[24] = 64;
+    let mut i = 0;
+    while i < 65 {
+        out[28 + 8 * i] = (1 + i % 65) as u8;
+        out[32 + 8 * i] = (255 - i % 65) as u8;
+        i += 1;
+    }
+    out
+}
+
+// Questions that do not follow the notation, and that do.
+fn questions() {
+    read(b"");
+    read(b"/call");
+    read(b"//call[]");
+    read(b"//call]");
+    read(b"//1a");
+    // names of 16 and of 17 characters
+    read(b"//abcdefghijklmnop");
+    read(b"//abcdefghijklmnopq");
+    // 32 steps, and 33
+    read(
+        b"//a//a//a//a//a//a//a//a//a//a//a//a//a//a//a//a//a//a//a//a//a//a//a//a//a//a//a//a//a//a//a//a",
+    );
+    read(
+        b"//a//a//a//a//a//a//a//a//a//a//a//a//a//a//a//a//a//a//a//a//a//a//a//a//a//a//a//a//a//a//a//a//a",
+    );
+    // 33 steps and then a break
+    read(
+        b"//a//a//a//a//a//a//a//a//a//a//a//a//a//a//a//a//a//a//a//a//a//a//a//a//a//a//a//a//a//a//a//a//a[",
+    );
+    // 8 deep, and 9
+    read(b"//a[//a[//a[//a[//a[//a[//a[//a[//a]]]]]]]]");
+    read(b"//a[//a[//a[//a[//a[//a[//a[//a[//a[//a]]]]]]]]]");
+    // 1,024 bytes, and 1,025
+    read(&[b'/'; 1024]);
+    read(&[b'/'; 1025]);
+    // bytes over 127, zero bytes, a line feed, and something after a bracket
+    read(b"//\xe9");
+    read(b"//a\xff");
+    read(b"\x00");
+    read(b"//a\x00");
+    read(b"//call\n");
+    read(b"//a[//b]c");
+    read(b"//_-.9[//B]//c");
+}
+
+fn main() {
+    small_day();
+    article();
+    other_article();
+    library();
+    indexes();
+    questions();
+}

@@ -6,3 +6,4 @@ pub mod Agreeing
 pub mod Drawing
 pub mod Ending
 pub mod Responding
+pub mod Tied

@@ -1,16 +1,32 @@
 // The rows of document 01's table that are not proved, and examples of the papers, run.
 // What each should give stands beside it, worked out by hand from the rules; `stdout` has the same.
 
+// A number, to be printed.
+fn wide(x: u32) -> u64 {
+    x as u64
+}
+
 // Writes the first n of the numbers, each after a blank.
 fn numbers(out: &[u32], n: usize) {
     let mut i = 0;
     while i < n {
         if i < out.len() {
             io::write_all(1, b" ");
-            io::print_decimal(1, out[i] as u64);
+            io::print_decimal(1, wide(out[i]));
         }
         i += 1;
     }
+}
+
+// The product of two small numbers.
+fn product(a: usize, b: usize) -> usize {
+    if 24 < a {
+        return 0;
+    }
+    if 24 < b {
+        return 0;
+    }
+    a * b
 }
 
 // Writes a question with its positions, its evidence rows one after the other, whether more remain, and the next place.
@@ -28,9 +44,7 @@ fn ask(index: &[u8], text: &[u8], steps: usize, place: u32) {
     numbers(&out, page.rows);
     io::write_all(1, b" evidence");
     let shown = answer::evidence(index, text, place, &mut out);
-    if shown.rows <= 24 && steps <= 24 {
-        numbers(&out, shown.rows * steps);
-    }
+    numbers(&out, product(shown.rows, steps));
     if page.more {
         io::write_all(1, b" more");
     }
@@ -114,22 +128,28 @@ fn library() {
     ask(day, b"//library//author", 2, 0);
 }
 
+// The first n bytes, if there are so many.
+fn beginning(s: &[u8], n: usize) -> &[u8] {
+    if n <= s.len() {
+        return &s[..n];
+    }
+    s
+}
+
 // Indexes that are refused, and that are not.
 fn indexes() {
     check(b"\x00\x00\x02\x00");
     check(b"\x01\x00\x01\x00");
     check(b"\x00\x00\x01");
-    let days = nested();
-    // 64 nested, and 65
-    check(&days[..540]);
-    let mut more = days;
-    more[24] = 65;
-    check(&more);
+    let most = nested(64);
+    check(beginning(&most, 540));
+    let over = nested(65);
+    check(&over);
 }
 
-// An index with the one list `call`, of 65 labels of which each but the first lies inside the one before; its row says 64, and 540 bytes are
-// the index with 64.
-fn nested() -> [u8; 548] {
+// An index with the one list `call`, of 65 labels of which each but the first lies inside the one before, and in its row the number given; the
+// first 540 bytes are the index with 64 of them.
+fn nested(many: u8) -> [u8; 548] {
     let mut out = [0u8; 548];
     out[0] = 1;
     out[2] = 1;
@@ -138,7 +158,7 @@ fn nested() -> [u8; 548] {
     out[6] = b'l';
     out[7] = b'l';
     out[20] = 28;
-    out[24] = 64;
+    out[24] = many;
     let mut i = 0;
     while i < 65 {
         out[28 + 8 * i] = (1 + i % 65) as u8;

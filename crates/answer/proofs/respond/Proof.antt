@@ -1,3 +1,4 @@
+-- `answer::respond` meets its contract: each part's promise is a part of the call's.
 use Prim.Native.Nat.{ℕ, _+_, _≤_, _<_}
 use native.Mathlib.Omega.{arith}
 use mathlib.Core.List.{List}
@@ -12,13 +13,6 @@ use Rattle.answer.proofs.Responding.{Heard, heard, refuse-index, refuse
 use borrow.Author.Needs.{needs}
 use Rattle.answer.proofs.respond.Statement.{statement}
 use Rattle.answer.proofs.respond.Tie as tie
-use Rattle.answer.proofs.respond.Reads as reads
-use Rattle.answer.proofs.respond.Lts as lts
-use Rattle.answer.proofs.pages.write_page.Reads as write-page-reads
-use Rattle.answer.proofs.plan.draw.Reads as draw-reads
-use Rattle.answer.proofs.refused.Reads as refused-reads
-use Rattle.day.proofs.check.Reads as check-reads
-use Rattle.question.proofs.read.Reads as read-reads
 
 -- Where the call began, from where the index was found lawful; what was found of the index and of the question.
 abbrev start : tie.Else1 → tie.Start

@@ -1,3 +1,4 @@
+-- `answer::cursors::look` meets its contract: each return is one of the three sights.
 use Prim.Native.Nat.{ℕ}
 use native.Mathlib.Omega.{arith}
 use mathlib.Core.Path.{subst}
@@ -5,37 +6,25 @@ use Rattle.label.specs.Started.{Started}
 use borrow.Author.Needs.{needs}
 use Rattle.answer.proofs.cursors.look.Statement.{statement}
 use Rattle.answer.proofs.cursors.look.Tie as tie
-use Rattle.answer.proofs.cursors.look.Reads as reads
-use Rattle.answer.proofs.cursors.look.Lts as lts
-use Rattle.label.proofs.end_at.Reads as end-at-reads
-use Rattle.label.proofs.start_at.Reads as start-at-reads
-use Rattle.label.proofs.started.Reads as started-reads
 
--- src/cursors.rt:28:9
 start-at-requires : tie.Need-start-at-requires
 start-at-requires c κs = search needs
 
--- src/cursors.rt:29:9
 start-at-requires-2 : tie.Need-start-at-requires-2
 start-at-requires-2 c κs = search needs
 
--- src/cursors.rt:31:29
 started-requires : tie.Need-started-requires
 started-requires c κs = search needs
 
--- src/cursors.rt:31:9
 returns : tie.Need-returns
 returns c = (omega (arith, c .before .before .start-at2 .ensures .0), subst (λ (v : ℕ). Started (c .before .before .before .before .before .args .index .now) (c .before .before .before .before .before .args .at) (c .before .before .before .before .before .args .n) v (c .started .result)) (c .before .before .start-at2 .ensures .0) (c .started .ensures))
 
--- src/cursors.rt:33:9
 end-at-requires : tie.Need-end-at-requires
 end-at-requires c κs = search needs
 
--- src/cursors.rt:35:9
 returns-2 : tie.Need-returns-2
 returns-2 c = search needs
 
--- src/cursors.rt:24:1
 returns-3 : tie.Need-returns-3
 returns-3 c = search needs
 

@@ -1,3 +1,4 @@
+-- `answer::cursors::settle` meets its contract. The loop's invariant is `Turn`, and each way round the loop is a lemma of `Turns`.
 use Prim.Native.Nat.{ℕ, _+_, _*_, _-_, _≤_, _<_}
 use native.Mathlib.Omega.{arith}
 use borrow.Author.Needs.{needs}
@@ -13,9 +14,6 @@ use Rattle.answer.specs.Looking.{Looks}
 use Rattle.answer.proofs.Turns.{Turn, μ, turn-begin, turn-end, turn-none, turn-free, turn-jump, turn-back, turn-on, on-less, jump-less, back-less, above-held, above-room, up-lt, ascends}
 use Rattle.answer.proofs.cursors.settle.Statement.{statement}
 use Rattle.answer.proofs.cursors.settle.Tie as tie
-use Rattle.answer.proofs.cursors.settle.Reads as reads
-use Rattle.answer.proofs.cursors.settle.Lts as lts
-use Rattle.answer.proofs.cursors.look.Reads as look-reads
 
 abbrev Inv-loop : tie.InvT-loop
 Inv-loop index k ret hangs offsets counts pos₀ first s₀ pos s = Turn (planOf index k ret hangs offsets counts) (at pos₀) pos s
@@ -65,143 +63,108 @@ above-held₂ e = let i = in₂ e in above-held _ _ _ _ _ _ (i .before .before .
 small₂ : (e : tie.Else2 Inv-loop μ-loop) → u₂ e < 32
 small₂ e = let i = in₂ e in omega (arith, up-lt₂ e, i .loop-test .taken, i .before .before .before .pre .0 .few)
 
--- src/cursors.rt:46:5
 loop-holds : tie.Need-loop-holds Inv-loop μ-loop
 loop-holds c = turn-begin _ _ _ _ _ _ (c .before .pre .0) _ _ (c .before .pre .2) (c .before .pre .1) (c .before .pre .3)
 
--- src/cursors.rt:47:17
 mul-p : tie.Need-mul-p Inv-loop μ-loop
 mul-p c = search needs
 
--- src/cursors.rt:47:17
 element-copy-out-p : tie.Need-element-copy-out-p Inv-loop μ-loop
 element-copy-out-p c = search needs
 
--- src/cursors.rt:48:17
 mul-n : tie.Need-mul-n Inv-loop μ-loop
 mul-n c = search needs
 
--- src/cursors.rt:48:17
 element-copy-out-n : tie.Need-element-copy-out-n Inv-loop μ-loop
 element-copy-out-n c = search needs
 
--- src/cursors.rt:50:13
 returns : tie.Need-returns Inv-loop μ-loop
 returns c = let i = c .before .before .before in (ended (turn-none _ _ _ _ _ _ (i .before .before .before .pre .0) _ _ _ (i .before .loop .inv) (i .loop-test .taken) (c .if1 .taken)), i .before .loop .inv .len)
 
--- src/cursors.rt:52:17
 mul-u : tie.Need-mul-u Inv-loop μ-loop
 mul-u c = search needs
 
--- src/cursors.rt:52:17
 element-copy-out-u : tie.Need-element-copy-out-u Inv-loop μ-loop
 element-copy-out-u c = search needs
 
--- src/cursors.rt:53:17
 cast-if2 : tie.Need-cast-if2 Inv-loop μ-loop
 cast-if2 c = search needs
 
--- src/cursors.rt:54:13
 add-s : tie.Need-add-s Inv-loop μ-loop
 add-s c = search needs
 
--- src/cursors.rt:46:5
 loop-less : tie.Need-loop-less Inv-loop μ-loop
 loop-less c = search needs
 
--- src/cursors.rt:46:5
 loop-again : tie.Need-loop-again Inv-loop μ-loop
 loop-again c = let i = in₁ (c .before .before) in turn-free _ _ _ _ _ _ (i .before .before .before .pre .0) _ _ _ (i .before .loop .inv) (i .loop-test .taken) (c .before .before .if1 .left) (c .if2 .taken)
 
--- src/cursors.rt:56:21
 mul-q : tie.Need-mul-q Inv-loop μ-loop
 mul-q c = record { fits = omega (arith, small₂ c) }
 
--- src/cursors.rt:56:21
 element-copy-out-q : tie.Need-element-copy-out-q Inv-loop μ-loop
 element-copy-out-q c = small₂ c
 
--- src/cursors.rt:57:31
 mul-look : tie.Need-mul-look Inv-loop μ-loop
 mul-look c = search needs
 
--- src/cursors.rt:57:31
 element-copy-out-look : tie.Need-element-copy-out-look Inv-loop μ-loop
 element-copy-out-look c = search needs
 
--- src/cursors.rt:57:49
 mul-look-2 : tie.Need-mul-look-2 Inv-loop μ-loop
 mul-look-2 c = record { fits = omega (arith, small₂ (c .before .before)) }
 
--- src/cursors.rt:57:49
 element-copy-out-look-2 : tie.Need-element-copy-out-look-2 Inv-loop μ-loop
 element-copy-out-look-2 c = small₂ (c .before .before)
 
--- src/cursors.rt:57:19
 look-requires : tie.Need-look-requires Inv-loop μ-loop
 look-requires c κs = let e = c .before .before .before in let i = in₂ e in (e .before .before .if1 .left, i .before .before .before .pre .0 .held _ (i .loop-test .taken), above-held₂ e, ascends _ _ _ _ _ _ (i .before .before .before .pre .0) _ _ _ (i .before .loop .inv) (i .loop-test .taken) (e .before .before .if1 .left) _ refl (e .if2 .left))
 
--- src/cursors.rt:58:30
 enum-known-r : tie.Need-enum-known-r Inv-loop μ-loop
 enum-known-r c = search needs
 
--- src/cursors.rt:59:21
 mul-pos : tie.Need-mul-pos Inv-loop μ-loop
 mul-pos c = search needs
 
--- src/cursors.rt:59:21
 element-write-pos : tie.Need-element-write-pos Inv-loop μ-loop
 element-write-pos c = search needs
 
--- src/cursors.rt:46:5
 loop-less-2 : tie.Need-loop-less-2 Inv-loop μ-loop
 loop-less-2 c = let e = c .before .before .before .before .before .before .before in let i = in₂ e in let see : Sees e (Early (c .before .r .given .0 .0)) = subst (Sees e) (c .before .r .given .1) (c .before .before .before .look .ensures) in jump-less _ _ _ _ _ _ (i .before .before .before .pre .0) _ _ _ (i .before .loop .inv) (i .loop-test .taken) (e .before .before .if1 .left) _ refl (e .if2 .left) _ (see .0) (see .1)
 
--- src/cursors.rt:46:5
 loop-again-2 : tie.Need-loop-again-2 Inv-loop μ-loop
 loop-again-2 c = let e = c .before .before .before .before .before .before .before in let i = in₂ e in let see : Sees e (Early (c .before .r .given .0 .0)) = subst (Sees e) (c .before .r .given .1) (c .before .before .before .look .ensures) in turn-jump _ _ _ _ _ _ (i .before .before .before .pre .0) _ _ _ (i .before .loop .inv) (i .loop-test .taken) (e .before .before .if1 .left) _ refl (e .if2 .left) _ (see .0) (see .1)
 
--- src/cursors.rt:62:30
 enum-told : tie.Need-enum-told Inv-loop μ-loop
 enum-told c = search needs
 
--- src/cursors.rt:62:30
 add-pos : tie.Need-add-pos Inv-loop μ-loop
 add-pos c = let e = c .before .before .before .before .before .before in let i = in₂ e in record { fits = omega (arith, above-room₂ e, i .before .before .before .pre .0 .small (u₂ e) (omega (arith, up-lt₂ e, i .loop-test .taken))) }
 
--- src/cursors.rt:62:21
 mul-pos-2 : tie.Need-mul-pos-2 Inv-loop μ-loop
 mul-pos-2 c = record { fits = omega (arith, small₂ (c .before .before .before .before .before .before)) }
 
--- src/cursors.rt:62:21
 element-write-pos-2 : tie.Need-element-write-pos-2 Inv-loop μ-loop
 element-write-pos-2 c = small₂ (c .before .before .before .before .before .before)
 
--- src/cursors.rt:46:5
 loop-less-3 : tie.Need-loop-less-3 Inv-loop μ-loop
 loop-less-3 c = let e = c .before .before .before .before .before .before in let i = in₂ e in let see : Sees e Late = subst (Sees e) (c .enum-told .given .1) (c .before .before .look .ensures) in back-less _ _ _ _ _ _ (i .before .before .before .pre .0) _ _ _ (i .before .loop .inv) (i .loop-test .taken) (e .before .before .if1 .left) _ refl (e .if2 .left) see
 
--- src/cursors.rt:46:5
 loop-again-3 : tie.Need-loop-again-3 Inv-loop μ-loop
 loop-again-3 c = let e = c .before .before .before .before .before .before in let i = in₂ e in let see : Sees e Late = subst (Sees e) (c .enum-told .given .1) (c .before .before .look .ensures) in turn-back _ _ _ _ _ _ (i .before .before .before .pre .0) _ _ _ (i .before .loop .inv) (i .loop-test .taken) (e .before .before .if1 .left) _ refl (e .if2 .left) see
 
--- src/cursors.rt:66:21
 enum-told-2 : tie.Need-enum-told-2 Inv-loop μ-loop
 enum-told-2 c = search needs
 
--- src/cursors.rt:66:21
 add-s-2 : tie.Need-add-s-2 Inv-loop μ-loop
 add-s-2 c = search needs
 
--- src/cursors.rt:46:5
 loop-less-4 : tie.Need-loop-less-4 Inv-loop μ-loop
 loop-less-4 c = search needs
 
--- src/cursors.rt:46:5
 loop-again-4 : tie.Need-loop-again-4 Inv-loop μ-loop
 loop-again-4 c = let e = c .before .before .before .before .before .before in let i = in₂ e in let see : Sees e Within = subst (Sees e) (c .enum-told2 .given .1) (c .before .before .look .ensures) in turn-on _ _ _ _ _ _ (i .before .before .before .pre .0) _ _ _ (i .before .loop .inv) (i .loop-test .taken) (e .before .before .if1 .left) _ refl (e .if2 .left) (see .0) (see .1)
 
--- src/cursors.rt:41:1
 returns-2 : tie.Need-returns-2 Inv-loop μ-loop
 returns-2 c = (found (turn-end _ _ _ _ _ _ (c .before .before .before .pre .0) _ _ _ (c .before .loop .inv) (c .loop-test .left)), c .before .loop .inv .len)
 

@@ -1,3 +1,4 @@
+-- `answer::pages::put_row` meets its contract. The loop's invariant: the first j positions are pasted in.
 use Prim.Native.Nat.{ℕ, suc, _+_, _*_, _-_, _≤_, _<_}
 use mathlib.Core.Path.{_≡_, refl, sym, ap, _∙_, subst}
 use mathlib.Core.List.{List}
@@ -9,8 +10,6 @@ use lib.ListN.{length, getD, set, drop, length-set, length-drop}
 use lib.Seq.{paste, paste-zero, paste-suc, getD-drop}
 use Rattle.answer.proofs.pages.put_row.Statement.{statement}
 use Rattle.answer.proofs.pages.put_row.Tie as tie
-use Rattle.answer.proofs.pages.put_row.Reads as reads
-use Rattle.answer.proofs.pages.put_row.Lts as lts
 
 abbrev Inv-loop : tie.InvT-loop
 Inv-loop out₀ to pos step width j₀ out j = (j ≤ width) × (length out ≡ length out₀) × (out ≡ paste out₀ to (drop step pos) j)
@@ -18,47 +17,36 @@ Inv-loop out₀ to pos step width j₀ out j = (j ≤ width) × (length out ≡ 
 abbrev μ-loop : tie.MeasureT-loop
 μ-loop out₀ to pos step width j₀ out j = width - j
 
--- src/pages.rt:30:5
 loop-holds : tie.Need-loop-holds Inv-loop μ-loop
 loop-holds c = (omega arith, refl, paste-zero (c .args .out .now) (c .args .to) (drop (c .args .step) (c .args .pos .now)))
 
--- src/pages.rt:31:21
 add-p : tie.Need-add-p Inv-loop μ-loop
 add-p c = search needs
 
--- src/pages.rt:31:17
 mul-p : tie.Need-mul-p Inv-loop μ-loop
 mul-p c = search needs
 
--- src/pages.rt:31:17
 element-copy-out-p : tie.Need-element-copy-out-p Inv-loop μ-loop
 element-copy-out-p c = search needs
 
--- src/pages.rt:32:23
 cast-out : tie.Need-cast-out Inv-loop μ-loop
 cast-out c = let t = c .before .before .before in record { fits = omega (arith, t .pre .3 (t .args .step + c .before .before .loop .j) (omega arith)) }
 
--- src/pages.rt:32:13
 add-out : tie.Need-add-out Inv-loop μ-loop
 add-out c = search needs
 
--- src/pages.rt:32:9
 mul-out : tie.Need-mul-out Inv-loop μ-loop
 mul-out c = search needs
 
--- src/pages.rt:32:9
 slice-write-out : tie.Need-slice-write-out Inv-loop μ-loop
 slice-write-out c = search needs
 
--- src/pages.rt:33:9
 add-j : tie.Need-add-j Inv-loop μ-loop
 add-j c = search needs
 
--- src/pages.rt:30:5
 loop-less : tie.Need-loop-less Inv-loop μ-loop
 loop-less c = search needs
 
--- src/pages.rt:30:5
 loop-again : tie.Need-loop-again Inv-loop μ-loop
 loop-again c =
     let t = c .before .before .before in
@@ -70,11 +58,9 @@ loop-again c =
           (paste-suc (t .args .out .now) (t .args .to) (drop (t .args .step) (t .args .pos .now)) (l .j) 0 (omega arith) (omega (arith, length-drop (t .args .step) (t .args .pos .now)))),
     )
 
--- src/pages.rt:25:1
 same-length : tie.Need-same-length Inv-loop μ-loop
 same-length c = search needs
 
--- src/pages.rt:25:1
 returns : tie.Need-returns Inv-loop μ-loop
 returns c =
     let t = c .before .before in

@@ -1,3 +1,4 @@
+-- `answer::pages::write_page` meets its contract. The loop's invariant is `Writing`; the measure is what is left of the returned step's list.
 use Prim.Native.Nat.{ℕ, suc, _+_, _*_, _-_, _/_, _≤_, _<_}
 use mathlib.Core.Path.{_≡_, refl, sym, ap, _∙_, subst}
 use mathlib.Core.List.{List}
@@ -16,11 +17,6 @@ use Rattle.answer.proofs.Paging.{Writing, page-begin, page-done, page-f
 use Rattle.answer.proofs.Turns.{ret-of, steps-of}
 use Rattle.answer.proofs.pages.write_page.Statement.{statement}
 use Rattle.answer.proofs.pages.write_page.Tie as tie
-use Rattle.answer.proofs.pages.write_page.Reads as reads
-use Rattle.answer.proofs.pages.write_page.Lts as lts
-use Rattle.answer.proofs.cursors.settle.Reads as settle-reads
-use Rattle.answer.proofs.pages.put_row.Reads as put-row-reads
-use Rattle.answer.proofs.pages.start_from.Reads as start-from-reads
 
 abbrev Inv-loop : tie.InvT-loop
 Inv-loop index k ret hangs offsets counts place step width out₀ room pos₀ first₀ rows₀ to₀ out pos first rows to =

@@ -1,3 +1,4 @@
+-- `answer::plan::draw` meets its contract. The loop's invariant is `Drawing`.
 use Prim.Native.Nat.{ℕ, _+_, _-_, _≤_, _<_}
 use native.Mathlib.Omega.{arith}
 use borrow.Author.Needs.{needs}
@@ -14,11 +15,6 @@ use Rattle.answer.specs.Plan.{Asks, Draws}
 use Rattle.answer.proofs.Drawing.{Drawing, draw-begin, draw-on, draw-end, asked-step}
 use Rattle.answer.proofs.plan.draw.Statement.{statement}
 use Rattle.answer.proofs.plan.draw.Tie as tie
-use Rattle.answer.proofs.plan.draw.Reads as reads
-use Rattle.answer.proofs.plan.draw.Lts as lts
-use Rattle.answer.proofs.plan.zeros.Reads as zeros-reads
-use Rattle.day.proofs.find.Reads as find-reads
-use Rattle.question.proofs.name_of.Reads as name-of-reads
 
 abbrev Inv-loop : tie.InvT-loop
 Inv-loop index text question hangs₀ offsets₀ counts₀ count s₀ hangs offsets counts s =

@@ -3,12 +3,13 @@
 ghost use mathlib.Core.Path.{_≡_};
 ghost use Prim.Native.Nat.{ℕ, _+_, _*_, _<_, _≤_};
 ghost use lib.ListN.{length};
-ghost use Rattle.meaning.specs.Day.{labelAt};
+ghost use Rattle.meaning.specs.Limits.{mostSteps};
 ghost use Rattle.meaning.specs.Picks.{at};
 ghost use Rattle.label.specs.Started.{Ascends};
 ghost use Rattle.answer.specs.Plan.{planOf, Planned};
 ghost use Rattle.answer.specs.Cursors.{Held, Settled};
 ghost use Rattle.answer.specs.Looking.{Looks};
+use meaning::Step;
 
 // Where a record starts, seen from a record that it is to lie in.
 pub enum Sight {
@@ -42,14 +43,14 @@ pub fn settle(
     index: &[u8],
     k: usize,
     ret: usize,
-    hangs: &[usize; 32],
-    offsets: &[usize; 32],
-    counts: &[usize; 32],
-    pos: &mut [usize; 32],
+    hangs: &[usize; Step::MOST],
+    offsets: &[usize; Step::MOST],
+    counts: &[usize; Step::MOST],
+    pos: &mut [usize; Step::MOST],
     first: usize,
 ) -> bool
-    requires { ⌜ Planned (now index) k ret (now hangs) (now offsets) (now counts) × (first ≤ k) × (length (now pos) ≡ 32) × Held (planOf (now index) k ret (now hangs) (now offsets) (now counts)) (at (now pos)) first ⌝ }
-    ensures { λ r. ⌜ Settled (planOf (now (index .entry)) k ret (now (hangs .entry)) (now (offsets .entry)) (now (counts .entry))) (at (now (pos .entry))) r (now (pos .exit)) × (length (now (pos .exit)) ≡ 32) ⌝ }
+    requires { ⌜ Planned (now index) k ret (now hangs) (now offsets) (now counts) × (first ≤ k) × (length (now pos) ≡ mostSteps) × Held (planOf (now index) k ret (now hangs) (now offsets) (now counts)) (at (now pos)) first ⌝ }
+    ensures { λ r. ⌜ Settled (planOf (now (index .entry)) k ret (now (hangs .entry)) (now (offsets .entry)) (now (counts .entry))) (at (now (pos .entry))) r (now (pos .exit)) × (length (now (pos .exit)) ≡ mostSteps) ⌝ }
 {
     let mut s = first;
     while s < k {
@@ -59,7 +60,7 @@ pub fn settle(
             return false;
         }
         let u = hangs[s];
-        if u == meaning::Step::NOTHING as usize {
+        if u == Step::NOTHING as usize {
             s += 1;
         } else {
             let q = pos[u];

@@ -3,27 +3,28 @@ ghost use mathlib.Core.Path.{_≡_};
 ghost use Prim.Native.Nat.{ℕ, _+_, _*_, _/_, _<_, _≤_};
 ghost use lib.ListN.{length, set, drop, replicate};
 ghost use lib.Seq.{paste};
-ghost use Rattle.meaning.specs.Limits.{mostLabels};
+ghost use Rattle.meaning.specs.Limits.{mostLabels, mostSteps};
 ghost use Rattle.meaning.specs.Picks.{at};
 ghost use Rattle.meaning.specs.Pages.{Paged};
 ghost use Rattle.answer.specs.Plan.{planOf, Planned};
 ghost use Rattle.answer.specs.Rows.{PartOf};
 use crate::cursors::settle;
 use meaning::Page;
+use meaning::Step;
 
 // Cursors at the beginning of each list, but that of the returned step, which is at the page's place.
-fn start_from(ret: usize, place: usize) -> [usize; 32]
-    requires { ⌜ ret < 32 ⌝ }
-    ensures { λ r. ⌜ r ≡ set (replicate 32 0) ret place ⌝ }
+fn start_from(ret: usize, place: usize) -> [usize; Step::MOST]
+    requires { ⌜ ret < mostSteps ⌝ }
+    ensures { λ r. ⌜ r ≡ set (replicate mostSteps 0) ret place ⌝ }
 {
-    let mut pos = [0; 32];
+    let mut pos = [0; Step::MOST];
     pos[ret] = place;
     pos
 }
 
 // Writes `width` of the positions, from that of `step` on, to the buffer at `to`.
-fn put_row(out: &mut [u32], to: usize, pos: &[usize; 32], step: usize, width: usize)
-    requires { ⌜ (step + width ≤ 32) × (to + width ≤ length (now out)) × (length (now pos) ≡ 32) × ((s : ℕ) → s < step + width → at (now pos) s < mostLabels) ⌝ }
+fn put_row(out: &mut [u32], to: usize, pos: &[usize; Step::MOST], step: usize, width: usize)
+    requires { ⌜ (step + width ≤ mostSteps) × (to + width ≤ length (now out)) × (length (now pos) ≡ mostSteps) × ((s : ℕ) → s < step + width → at (now pos) s < mostLabels) ⌝ }
     ensures { λ r. ⌜ now (out .exit) ≡ paste (now (out .entry)) to (drop step (now (pos .entry))) width ⌝ }
 {
     let mut j = 0;
@@ -39,9 +40,9 @@ pub fn write_page(
     index: &[u8],
     k: usize,
     ret: usize,
-    hangs: &[usize; 32],
-    offsets: &[usize; 32],
-    counts: &[usize; 32],
+    hangs: &[usize; Step::MOST],
+    offsets: &[usize; Step::MOST],
+    counts: &[usize; Step::MOST],
     place: usize,
     step: usize,
     width: usize,

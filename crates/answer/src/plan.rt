@@ -1,6 +1,7 @@
 // The plan of a question: what the engine needs of each step, found once.
 ghost use mathlib.Core.Path.{_≡_};
 ghost use lib.ListN.{replicate};
+ghost use Rattle.meaning.specs.Limits.{mostSteps};
 ghost use Rattle.meaning.specs.Refusals.{Lawful};
 ghost use Rattle.answer.specs.Plan.{Asks, Draws};
 use meaning::Question;
@@ -14,7 +15,7 @@ pub struct Plan {
 }
 
 fn zeros() -> [usize; Step::MOST]
-    ensures { λ r. ⌜ r ≡ replicate 32 0 ⌝ }
+    ensures { λ r. ⌜ r ≡ replicate mostSteps 0 ⌝ }
 {
     [0; Step::MOST]
 }

@@ -10,6 +10,7 @@ use crate::rows::count_of;
 use crate::rows::offset_of;
 use crate::rows::tags_of;
 use meaning::Body;
+use meaning::Label;
 
 // The list of a name among the first `many` rows, looked for from the last of them to the first, as `listAmong` does.
 fn among(index: &[u8], name: &[u8], many: usize) -> Body
@@ -48,6 +49,6 @@ pub fn lookup<'a>(index: &'a [u8], name: &[u8]) -> &'a [u8]
 {
     let body = find(index, name);
     let from = body.offset;
-    let to = from + 8 * body.count;
+    let to = from + Label::BYTES * body.count;
     &index[from..to]
 }

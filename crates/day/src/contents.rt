@@ -16,6 +16,7 @@ use crate::rows::offset_of;
 use crate::rows::tags_of;
 use crate::rows::version_of;
 use meaning::Index;
+use meaning::Label;
 
 // Whether row r comes after the row before it, if there is one.
 fn in_order(index: &[u8], r: usize) -> bool
@@ -63,11 +64,11 @@ fn all_rows(index: &[u8], many: usize) -> Rows
     requires { ⌜ (many ≡ tags (now index)) × (many ≤ mostTags) × (rowAt many ≤ length (now index)) ⌝ }
     ensures { λ o. ⌜ AllRows (now (index .entry)) (o .ok) (o .labels) ⌝ }
 {
-    let bodies = 4 + 24 * many;
+    let bodies = Index::HEAD_BYTES + Index::ROW_BYTES * many;
     let mut labels = 0;
     let mut r = 0;
     while r < many {
-        if !row_right(index, r, bodies + 8 * labels) {
+        if !row_right(index, r, bodies + Label::BYTES * labels) {
             return Rows {
                 ok: false,
                 labels: 0,
@@ -93,7 +94,7 @@ pub fn contents(index: &[u8]) -> u32
     if Index::MOST_TAGS < many {
         return 3;
     }
-    let bodies = 4 + 24 * many;
+    let bodies = Index::HEAD_BYTES + Index::ROW_BYTES * many;
     if index.len() < bodies {
         return 3;
     }
@@ -105,7 +106,7 @@ pub fn contents(index: &[u8]) -> u32
     if Index::MOST_LABELS < labels {
         return 3;
     }
-    if index.len() != bodies + 8 * labels {
+    if index.len() != bodies + Label::BYTES * labels {
         return 4;
     }
     0

@@ -7,6 +7,7 @@ ghost use Rattle.meaning.specs.Names.{filled, Sooner};
 ghost use Rattle.meaning.specs.Day.{rowAt, nameField};
 ghost use Rattle.meaning.specs.Answers.{Decides};
 ghost use Rattle.day.specs.Rows.{ZeroFrom, Named};
+use meaning::Index;
 use meaning::Name;
 
 // The name of row r, as a part of the index.
@@ -14,7 +15,7 @@ pub fn name_field(index: &[u8], r: usize) -> &[u8]
     requires { ⌜ rowAt r + 24 ≤ length (now index) ⌝ }
     ensures { λ f. ⌜ (now f ≡ nameField (now (index .entry)) r) × (length (now f) ≡ mostName) ⌝ }
 {
-    let at = 4 + 24 * r;
+    let at = Index::HEAD_BYTES + Index::ROW_BYTES * r;
     &index[at..at + Name::MOST_BYTES]
 }
 

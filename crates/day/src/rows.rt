@@ -3,6 +3,7 @@ ghost use mathlib.Core.Path.{_≡_};
 ghost use Prim.Native.Nat.{_+_, _*_, _<_, _≤_};
 ghost use lib.ListN.{length};
 ghost use Rattle.meaning.specs.Day.{tags, version, offset, count, rowAt};
+use meaning::Index;
 
 // T, the number of tags.
 pub fn tags_of(index: &[u8]) -> usize
@@ -24,7 +25,10 @@ pub fn offset_of(index: &[u8], r: usize) -> usize
     requires { ⌜ rowAt r + 24 ≤ length (now index) ⌝ }
     ensures { λ o. ⌜ (o ≡ offset (now (index .entry)) r) × (o < 4294967296) ⌝ }
 {
-    label::u32_at(index, 4 + 24 * r + 16) as usize
+    label::u32_at(
+        index,
+        Index::HEAD_BYTES + Index::ROW_BYTES * r + Index::OFFSET_AT,
+    ) as usize
 }
 
 // How many labels row r has.
@@ -32,5 +36,8 @@ pub fn count_of(index: &[u8], r: usize) -> usize
     requires { ⌜ rowAt r + 24 ≤ length (now index) ⌝ }
     ensures { λ n. ⌜ (n ≡ count (now (index .entry)) r) × (n < 4294967296) ⌝ }
 {
-    label::u32_at(index, 4 + 24 * r + 20) as usize
+    label::u32_at(
+        index,
+        Index::HEAD_BYTES + Index::ROW_BYTES * r + Index::COUNT_AT,
+    ) as usize
 }

@@ -41,7 +41,7 @@ pub fn start_at(s: &[u8], at: usize, i: usize) -> u32
     requires { ⌜ at + 8 * i + 8 ≤ length (now s) ⌝ }
     ensures { λ r. ⌜ (r ≡ labelAt (now (s .entry)) at i .start) × (r < 4294967296) ⌝ }
 {
-    u32_at(s, at + 8 * i)
+    u32_at(s, at + Label::BYTES * i)
 }
 
 // The end of label i of the body that begins at `at`.
@@ -49,7 +49,7 @@ pub fn end_at(s: &[u8], at: usize, i: usize) -> u32
     requires { ⌜ at + 8 * i + 8 ≤ length (now s) ⌝ }
     ensures { λ r. ⌜ (r ≡ labelAt (now (s .entry)) at i .end) × (r < 4294967296) ⌝ }
 {
-    u32_at(s, at + 8 * i + 4)
+    u32_at(s, at + Label::BYTES * i + Label::END_AT)
 }
 
 // Label i of the body that begins at `at`.

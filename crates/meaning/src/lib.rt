@@ -21,6 +21,11 @@ pub struct Label {
 }
 
 impl Label {
+    // A label takes 8 bytes of a body, and its end begins with the fifth.
+    pub const BYTES: usize = 8;
+
+    pub const END_AT: usize = 4;
+
     // Most labels that lie each inside the one before.
     pub const MOST_NESTED: usize = 64;
 
@@ -42,6 +47,16 @@ pub struct Body {
 pub struct Index {}
 
 impl Index {
+    // What stands before the rows, and a row of the table of contents.
+    pub const HEAD_BYTES: usize = 4;
+
+    pub const ROW_BYTES: usize = 24;
+
+    // Where a row has its offset and its number of labels.
+    pub const OFFSET_AT: usize = 16;
+
+    pub const COUNT_AT: usize = 20;
+
     pub const MOST_TAGS: usize = 256;
 
     pub const MOST_LABELS: usize = 1_048_576;

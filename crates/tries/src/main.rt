@@ -92,7 +92,7 @@ fn small_day() {
     // a place of 4,294,967,295
     ask(day, b"//call", 1, 4294967295);
     // 1,025 bytes of anything
-    refusal(day, &[b'/'; 1025]);
+    refusal(day, &[b'/'; meaning::Question::MOST_BYTES + 1]);
     // a broken index and a broken question: the index's number
     refusal(b"\x00\x00\x02\x00", b"/call");
     ask(b"\x00\x00\x01\x00", b"//call", 1, 0);
@@ -193,8 +193,8 @@ fn questions() {
     read(b"//a[//a[//a[//a[//a[//a[//a[//a[//a]]]]]]]]");
     read(b"//a[//a[//a[//a[//a[//a[//a[//a[//a[//a]]]]]]]]]");
     // 1,024 bytes, and 1,025
-    read(&[b'/'; 1024]);
-    read(&[b'/'; 1025]);
+    read(&[b'/'; meaning::Question::MOST_BYTES]);
+    read(&[b'/'; meaning::Question::MOST_BYTES + 1]);
     // bytes over 127, zero bytes, a line feed, and something after a bracket
     read(b"//\xe9");
     read(b"//a\xff");

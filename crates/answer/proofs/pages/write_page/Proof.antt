@@ -109,7 +109,7 @@ array-read-here : tie.Need-array-read-here Inv-loop μ-loop
 array-read-here c = ret-32 (at-loop c)
 
 cast-t31 : tie.Need-cast-t31 Inv-loop μ-loop
-cast-t31 c = let e = c .before in let l = at-loop e in record { fits = omega (arith, small e (start l .args .ret) (ret-lt l) .1) }
+cast-t31 c = let e = c .before in let l = at-loop e in record { fits = omega (arith, small e (start l .args .ret) (ret-lt l) .1, ret-32 l) }
 
 same-length-2 : tie.Need-same-length-2 Inv-loop μ-loop
 same-length-2 c = at-loop (c .before) .loop .inv .same

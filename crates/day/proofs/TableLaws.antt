@@ -8,7 +8,7 @@ use lib.ListN.{length}
 use Rattle.meaning.specs.Limits.{mostTags, mostLabels}
 use Rattle.meaning.specs.Day.{tags, version, rowAt, total, RowRight, TooShort, OtherVersion, WrongContents, WrongLength}
 use Rattle.meaning.specs.Refusals.{Given, Clear, Verdict, clear, given, checkTable}
-use Rattle.meaning.proofs.Laws.Table.{Rising, above, given-applies, given-first, given-after, clear-both}
+use Rattle.meaning.proofs.Laws.Table.{Rising, zero-clear, given-first, given-after, clear-both}
 use Rattle.day.specs.Parts.{contentsTable, listsTable}
 
 module _ (b : List ℕ) where
@@ -59,8 +59,7 @@ contents-rising b = (omega arith, (omega arith, (omega arith, (omega arith, tt))
 
 -- Where 0 is given no reason of 1 to 4 applies.
 pub contents-clear : (b : List ℕ) (n : ℕ) → n ≡ 0 → Verdict (contentsTable b) n → Clear (contentsTable b)
-contents-clear b n e (clear c) = c
-contents-clear b n e (given g) = absurd (omega (arith, above (contentsTable b) 0 (contents-rising b) n (given-applies (contentsTable b) n g)))
+contents-clear b = zero-clear (contentsTable b) (contents-rising b)
 
 -- Where another number is given it is the check's.
 pub contents-refuses : (b : List ℕ) (n : ℕ) → n ≢ 0 → Verdict (contentsTable b) n → Verdict (checkTable b) n

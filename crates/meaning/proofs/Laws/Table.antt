@@ -91,10 +91,14 @@ verdict-one t m n (given g) (given h) = given-one t m n g h
 pub checked-fixed : (b : List ℕ) (m n : ℕ) → Checked b m → Checked b n → m ≡ n
 checked-fixed b = verdict-one (checkTable b)
 
+-- Where a table whose numbers are above 0 gives 0, no reason of it applies.
+pub zero-clear : (t : Table) → Rising 0 t → (n : ℕ) → n ≡ 0 → Verdict t n → Clear t
+zero-clear t rising n e (clear c) = c
+zero-clear t rising n e (given g) = absurd (omega (arith, above t 0 rising n (given-applies t n g)))
+
 -- An index to which the check call gives 0 is lawful.
 pub checked-lawful : (b : List ℕ) (n : ℕ) → n ≡ 0 → Checked b n → Lawful b
-checked-lawful b n e (clear c) = c
-checked-lawful b n e (given g) = absurd (omega (arith, above (checkTable b) 0 (check-rising b) n (given-applies (checkTable b) n g)))
+checked-lawful b = zero-clear (checkTable b) (check-rising b)
 
 -- A row before a table whose verdict is known: its own number where its reason applies, and else the table's.
 pub row-verdict : {reason : Type 0} {a : Bool} {rest : Table} {n : ℕ} (m : ℕ) → Decides reason a → Verdict rest n → Verdict (row m reason rest) (elim a [ true ↦ m | false ↦ n ])

@@ -9,7 +9,8 @@ ghost use Rattle.meaning.specs.Promises.{Answered, Shown};
 ghost use Rattle.answer.specs.Response.{Responds};
 use meaning::Page;
 use pages::write_page;
-use plan::draw;
+pub use plan::Plan;
+pub use plan::draw;
 
 // A refusal.
 fn refused(number: u32) -> Page

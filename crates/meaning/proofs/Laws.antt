@@ -12,3 +12,4 @@ pub mod Page
 pub mod Walk
 pub mod Table
 pub mod Promise
+pub mod Printing

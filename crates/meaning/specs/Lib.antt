@@ -10,3 +10,4 @@ pub mod Pages
 pub mod Refusals
 pub mod Promises
 pub mod Answers
+pub mod Printing

@@ -11,12 +11,12 @@ use Rattle.meaning.specs.Limits.{mostLabels}
 use Rattle.meaning.specs.Day.{total}
 use Rattle.meaning.specs.Notation.{Path, Follows}
 use Rattle.meaning.specs.Picks.{Asked, Returned, asked, stepAt}
-use Rattle.meaning.specs.Pages.{In, Paged, Refused, TooMany}
-use Rattle.meaning.specs.Refusals.{Lawful, callTable}
+use Rattle.meaning.specs.Pages.{In, Records, Paged, Refused, TooMany}
+use Rattle.meaning.specs.Refusals.{Lawful, checkTable, questionTable, callTable}
 use Rattle.meaning.specs.Promises.{Outcome, refused, page, Answered, Shown}
 use Rattle.meaning.proofs.Decide.{or-not, le-decides}
 use Rattle.meaning.proofs.Laws.Notation.{one-tree}
-use Rattle.meaning.proofs.Laws.Table.{given-one, clear-not-given}
+use Rattle.meaning.proofs.Laws.Table.{given-one, clear-not-given, clear-first}
 use Rattle.meaning.proofs.Laws.Day.{Fit, lawful-fit, list-small}
 use Rattle.meaning.proofs.Laws.Evidence.{evidence-one}
 use Rattle.meaning.proofs.Laws.Record.{ascending-few}
@@ -53,10 +53,21 @@ asked-small : (b : List ℕ) (p : Path) (s : ℕ) → asked b p .count s ≤ tot
 unfolding asked
 asked-small b p s = list-small b (stepAt p s .name)
 
--- On a lawful day reason 10 never applies: the returned records are different labels of one list.
-pub never-too-many : (b text : List ℕ) → Lawful b → TooMany b text → ⊥
-never-too-many b text law (f, all, rec, many) =
-    let a : Asked = asked b (f .tree) in
-    let fit : Fit a = lawful-fit b (f .tree) law in
+-- On a lawful day a call has at most 1,048,576 records: they are different labels of one list.
+few-records : (b : List ℕ) (t : Path) (place : ℕ) (all : List ℕ) → Lawful b → Records (asked b t) place all → length all ≤ mostLabels
+few-records b t place all law rec =
+    let a : Asked = asked b t in
+    let fit : Fit a = lawful-fit b t law in
     let low : (i : ℕ) → In i all → (0 ≤ i) × (i < a .count (a .returned)) = λ i h. (omega arith, returned-below a fit i (rec .each i h .0)) in
-    omega (arith, many, ascending-few all 0 (a .count (a .returned)) (rec .ascending) low, asked-small b (f .tree) (a .returned), lawful-small b law)
+    omega (arith, ascending-few all 0 (a .count (a .returned)) (rec .ascending) low, asked-small b t (a .returned), lawful-small b law)
+
+-- On a lawful day reason 10 never applies.
+pub never-too-many : (b text : List ℕ) → Lawful b → TooMany b text → ⊥
+never-too-many b text law (f, all, rec, many) = omega (arith, many, few-records b (f .tree) 0 all law rec)
+
+-- A call writes at most 1,048,576 rows.
+pub few-rows : {Row : Asked → ℕ → List ℕ → Type 0} {room : Asked → ℕ → ℕ} {b text entry exit : List ℕ} {place : ℕ} {r : Page}
+    → Outcome Row room b text place entry exit r → r .rows ≤ mostLabels
+few-rows (refused g x) = omega (arith, x .rows)
+few-rows {b = b} {text = text} (page c f p) =
+    omega (arith, p .rows, few-records b (f .tree) _ (p .all) (clear-first (checkTable b) (questionTable b text) c) (p .records))

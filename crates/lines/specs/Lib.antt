@@ -1,0 +1,2 @@
+-- What the functions of this crate promise to each other.
+pub mod Adding

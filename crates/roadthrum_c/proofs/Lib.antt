@@ -1,0 +1,2 @@
+-- Why the four numbers are right and fixed.
+pub mod Fixed

@@ -1,11 +1,18 @@
-# make demo: questions put to the small day.  make test: the whole gate.
-.PHONY: demo test
+# make demo: three questions put to the small day.  make test: the whole gate.  make bench: the speed, beside a twin and libxml2.
+.PHONY: demo test bench library program
 
-demo:
-	@rt check tries > /dev/null || { echo "rt check tries says why the demo can't be built"; exit 1; }
-	@echo "The small day: board 8:9 22:23, call 1:20 4:15 7:12 21:26 27:28, cancel 2:3 5:6."
-	@echo "Questions with the positions of their records, then the evidence rows, then the next place:"
-	@target/bin/tries | head -n 8
+demo: program
+	@bash demo/show
 
 test:
 	@bash tests/gate
+
+bench: library
+	@cargo run --quiet --release --offline --locked --manifest-path rust/Cargo.toml -p bench
+
+# The static library for C and Rust, and the program. Each is proved first, unless it was and nothing has changed.
+library:
+	@mkdir -p target && rt staticlib roadthrum_c > target/library.out 2>&1 || { cat target/library.out; exit 1; }
+
+program:
+	@mkdir -p target && rt check roadthrum > target/program.out 2>&1 || { cat target/program.out; exit 1; }

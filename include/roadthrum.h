@@ -1,0 +1,76 @@
+/*
+ * Roadthrum: questions put to a day of a building's lifts, answered with evidence.
+ *
+ * Link with libroadthrum_c.a, which `rt staticlib roadthrum_c` makes. It needs no other library, keeps nothing between calls, allocates
+ * nothing, and may be called from several threads at once.
+ *
+ * What is promised is proved of the library for every byte string as index and as question, whole or broken, and for every place. What a
+ * caller owes:
+ *   - each pointer goes with its true length: so many bytes can be read, and so many numbers of `rows` and 4 of `result` be written;
+ *     a length of 0 still takes a pointer that is not null;
+ *   - `rows` and `result` overlap neither each other nor what is read, and nothing else changes what is lent while a call runs;
+ *   - `rows` and `result` are aligned as uint32_t is;
+ *   - stack: a call needs at most ROADTHRUM_STACK bytes.
+ */
+#ifndef ROADTHRUM_H
+#define ROADTHRUM_H
+
+#include <stddef.h>
+#include <stdint.h>
+
+#ifdef __cplusplus
+extern "C" {
+#endif
+
+/* Bytes of stack that are enough for any call; docs/BENCHMARKS.md has what was measured. */
+#define ROADTHRUM_STACK 98304
+
+/* The numbers of `result`. */
+enum {
+    ROADTHRUM_REFUSAL = 0, /* the refusal, or 0 */
+    ROADTHRUM_ROWS = 1,    /* the rows written, at most 1,048,576 */
+    ROADTHRUM_MORE = 2,    /* 1 if a further record remains, else 0 */
+    ROADTHRUM_NEXT = 3     /* the place from which the next page goes on */
+};
+
+/*
+ * Checks an index. Gives 0 exactly for a lawful one, and else the number of the first reason that applies:
+ *   1  it has fewer than 4 bytes
+ *   2  its version is not 1
+ *   3  over 256 tags, fewer bytes than its table of contents takes, a row's name, order or offset is wrong, or over 1,048,576 labels
+ *   4  its length is not 4 + 24 for each tag + 8 for each label
+ *   5  a label with start >= end, or a list not strictly ascending by start
+ *   6  two labels share a number or cross, or 65 are nested
+ */
+uint32_t roadthrum_check(const uint8_t *index, size_t index_len);
+
+/*
+ * The answer call. Writes the list positions of the returned records at position `place` or later, each once and in order of start, as
+ * many as `rows` has room for, from its beginning; the rest of `rows` stays as it was.
+ *
+ * `result` gets four numbers. The refusal is 0 or the number of the first reason that applies, of 1 to 6 above and
+ *   7  the question has over 1,024 bytes
+ *   8  the question does not follow the notation
+ *   9  it follows it with over 32 steps or brackets over 8 deep
+ * On a refusal there are 0 rows, no further record, next place 0, and no number of `rows` is changed. Else there follow the rows written,
+ * whether a further record remains, and the next place: the position of the first record not written, or, if none remains, the number
+ * of labels in the returned step's list.
+ *
+ * A page with room for at least one row either ends the walk or names a later place than it was given. All records are had by pages from
+ * place 0, each going on from the next place of the one before as long as a further record remains.
+ */
+void roadthrum_answer(const uint8_t *index, size_t index_len, const uint8_t *question, size_t question_len, uint32_t place,
+                      uint32_t *rows, size_t rows_len, uint32_t result[4]);
+
+/*
+ * The evidence call. The same, but for each returned record it writes a row of as many list positions as the question has steps: of each
+ * step the record that stands as evidence, the earliest at every step at once. There is room for rows_len / steps of them.
+ */
+void roadthrum_evidence(const uint8_t *index, size_t index_len, const uint8_t *question, size_t question_len, uint32_t place,
+                        uint32_t *rows, size_t rows_len, uint32_t result[4]);
+
+#ifdef __cplusplus
+}
+#endif
+
+#endif

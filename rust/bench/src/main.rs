@@ -1,0 +1,40 @@
+//! The library's speed beside its twin in ordinary Rust and beside libxml2's XPath, as Markdown tables.
+//!
+//! Called without arguments it measures all. With arguments it is the child process that measures libxml2 on one day and one question.
+
+mod compared;
+mod growth;
+mod header;
+mod libxml2;
+mod lift;
+mod measure;
+mod nested;
+mod rival;
+mod source;
+mod table;
+mod timing;
+mod xml;
+
+use std::process::ExitCode;
+
+/// What went wrong, in a plain sentence.
+type Failure = String;
+
+fn main() -> ExitCode {
+    let words: Vec<String> = std::env::args().skip(1).collect();
+    let outcome = if words.is_empty() { measure_all() } else { rival::serve(&words) };
+    match outcome {
+        Ok(()) => ExitCode::SUCCESS,
+        Err(failure) => {
+            eprintln!("{failure}");
+            ExitCode::FAILURE
+        }
+    }
+}
+
+fn measure_all() -> Result<(), Failure> {
+    header::print();
+    lift::print()?;
+    nested::print()?;
+    growth::print()
+}

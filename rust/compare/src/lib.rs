@@ -1,0 +1,18 @@
+//! The library beside the evaluators, on cases that follow from a seed.
+
+mod cases;
+mod comparing;
+mod damaged_index;
+mod damaged_question;
+mod libraries;
+mod random_days;
+mod random_questions;
+mod seeds;
+mod tally;
+
+pub use cases::{large_case, small_case, Case};
+pub use comparing::{compare_case, compare_page, compare_rows, few_enough};
+pub use damaged_index::damage_labels;
+pub use libraries::{Call, Library, PROVED, TWIN, WRAPPED};
+pub use seeds::Seeds;
+pub use tally::Tally;

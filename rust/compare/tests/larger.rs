@@ -1,0 +1,57 @@
+//! The library beside the second evaluator on days of up to 5,000 records: single pages, all pages in a row, and damaged days.
+
+use compare::{compare_case, compare_rows, damage_labels, large_case, Case, Seeds, Tally, PROVED};
+use days::Seeded;
+use evaluator::{Asked, Row, Way};
+use roadthrum::{answer_pages, evidence_pages, Pages};
+
+fn compare_larger(seed: u64) -> Result<Tally, String> {
+    let mut case = large_case(seed);
+    let random = &mut Seeded::new(!seed);
+    let found = Asked::read(&case.index, &case.question).map(|asked| asked.found(Way::Sets));
+    let mut tally = compare_rows(&PROVED, &case, &found)?;
+    for _ in 0..5 {
+        case.choose_page(random);
+        tally.add(compare_rows(&PROVED, &case, &found)?);
+    }
+    let found = found.map_err(|refusal| format!("a lawful case has the refusal {refusal}\n{case}"))?;
+    let returned: Vec<Row> = found.rows.iter().map(|row| vec![row[found.returned]]).collect();
+    let room = 1 + found.rows.len() / (1 + random.below(20));
+    compare_walk(&case, room, answer_pages(&case.index, &case.question, room), &returned)?;
+    compare_walk(&case, room, evidence_pages(&case.index, &case.question, room), &found.rows)?;
+    tally.count("walks of many pages", found.rows.len() > 2 * room);
+    if random.chance(1, 2) {
+        damage_labels(random, &mut case.index);
+        tally.add(compare_case(&PROVED, &case)?);
+    }
+    Ok(tally)
+}
+
+/// Whether the pages of a walk are the rows in order, each page with as many as it has room for, and none empty.
+fn compare_walk(case: &Case, room: usize, walk: Pages, rows: &[Row]) -> Result<(), String> {
+    let mut pages = Vec::new();
+    for page in walk {
+        let page = page.map_err(|refusal| format!("a walk gives the refusal {}\n{case}", refusal.number()))?;
+        pages.push(page.iter().map(<[u32]>::to_vec).collect::<Vec<Row>>());
+    }
+    let expected: Vec<Vec<Row>> = rows.chunks(room).map(<[Row]>::to_vec).collect();
+    if pages != expected {
+        return Err(format!("pages of {room} rows: expected {expected:?}, given {pages:?}\n{case}"));
+    }
+    Ok(())
+}
+
+#[test]
+fn larger_days() {
+    let seeds = Seeds::new(2_500);
+    let seen = seeds.run(compare_larger);
+    if seeds.one_alone() {
+        return;
+    }
+    for kind in ["answer: rows and more", "evidence: rows and more", "evidence: rows from a later place", "walks of many pages"] {
+        assert!(seen.of(kind) >= 1_000, "{kind} is hardly seen");
+    }
+    for refusal in [5, 6] {
+        assert!(seen.of(&format!("answer: refusal {refusal}")) >= 50, "refusal {refusal} is hardly seen");
+    }
+}

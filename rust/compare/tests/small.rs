@@ -1,0 +1,36 @@
+//! The library beside the first evaluator on small cases, lawful and damaged.
+
+use compare::{compare_case, small_case, Library, Seeds, PROVED, TWIN, WRAPPED};
+
+/// Compares so many cases, and sees that each refusal and each kind of result is among them so many times.
+fn compare_small(library: &Library, cases: u64, each_refusal: u64, each_kind: u64) {
+    let seeds = Seeds::new(cases);
+    let seen = seeds.run(|seed| compare_case(library, &small_case(seed)));
+    if seeds.one_alone() {
+        return;
+    }
+    assert!(seen.of("by AllPicks") >= cases / 3);
+    for call in ["answer", "evidence"] {
+        for refusal in 1..=9 {
+            assert!(seen.of(&format!("{call}: refusal {refusal}")) >= each_refusal, "refusal {refusal} is hardly seen");
+        }
+        for kind in ["rows", "rows and more", "no rows and more", "rows from a later place"] {
+            assert!(seen.of(&format!("{call}: {kind}")) >= each_kind, "{kind} is hardly seen");
+        }
+    }
+}
+
+#[test]
+fn small_cases() {
+    compare_small(&PROVED, 1_000_000, 1_000, 10_000);
+}
+
+#[test]
+fn small_cases_through_the_wrapper() {
+    compare_small(&WRAPPED, 100_000, 100, 1_000);
+}
+
+#[test]
+fn small_cases_by_the_twin() {
+    compare_small(&TWIN, 100_000, 100, 1_000);
+}

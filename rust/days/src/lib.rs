@@ -1,0 +1,17 @@
+//! Seeded days, written as day indexes.
+//!
+//! The same seed gives the same day on every machine, so that a case can be named by its seed.
+
+#[cfg(test)]
+mod deepest;
+mod index;
+mod lift;
+mod nested;
+mod seeded;
+mod small;
+
+pub use index::{Day, Label};
+pub use lift::lift_day;
+pub use nested::nested_day;
+pub use seeded::Seeded;
+pub use small::small_day;

@@ -1,0 +1,82 @@
+//! What document 01 says that a question gives, found from its definitions alone and in its words.
+//!
+//! Nothing here is quick or shares anything with the library that it judges. There are two evaluators: the first tries all picks, the
+//! second works with sets and so can take larger days and longer questions.
+
+mod index;
+mod name;
+mod pages;
+mod picks;
+mod printed;
+mod question;
+mod sets;
+
+pub use pages::{Found, Outcome, Row};
+pub use printed::printed;
+
+use index::{Index, Label};
+use question::Question;
+
+/// The refusal number of an index, or 0 for a lawful one.
+pub fn check(index: &[u8]) -> u32 {
+    match Index::read(index) {
+        Ok(_) => 0,
+        Err(refusal) => refusal,
+    }
+}
+
+/// How the rows are found.
+#[derive(Clone, Copy, Debug, PartialEq, Eq)]
+pub enum Way {
+    AllPicks,
+    Sets,
+}
+
+/// A lawful index and an accepted question.
+pub struct Asked {
+    /// For each step the records of its tag.
+    lists: Vec<Vec<Label>>,
+    /// For each step the number of the step that it hangs from.
+    hangs_from: Vec<Option<usize>>,
+    returned: usize,
+}
+
+/// The number of a step and the list position of one of its records.
+type Record = (usize, u32);
+
+impl Asked {
+    /// Reads the index, then the question, and gives the first refusal.
+    pub fn read(index: &[u8], question: &[u8]) -> Result<Asked, u32> {
+        let index = Index::read(index)?;
+        let Question { steps, returned } = Question::read(question)?;
+        let lists = steps.iter().map(|step| index.list(&step.name)).collect();
+        Ok(Asked { lists, hangs_from: steps.iter().map(|step| step.hangs_from).collect(), returned })
+    }
+
+    /// All that the question gives.
+    pub fn found(&self, way: Way) -> Found {
+        let rows = match way {
+            Way::AllPicks => picks::rows(self),
+            Way::Sets => sets::rows(self),
+        };
+        Found { rows, steps: self.lists.len(), returned: self.returned, labels: self.lists[self.returned].len() }
+    }
+
+    /// At most so many beginnings of one length there are to try on the way to all picks.
+    pub fn tries(&self) -> u64 {
+        self.lists.iter().fold(1, |tries: u64, list| tries.saturating_mul(list.len().max(1) as u64))
+    }
+
+    fn inside(&self, (a_step, a): Record, (b_step, b): Record) -> bool {
+        self.lists[a_step][a as usize].inside(self.lists[b_step][b as usize])
+    }
+
+    /// Whether a pick that gives the earlier steps these records may give the step this one: it has to lie inside the record of the step
+    /// that it hangs from, which is an earlier one.
+    fn may_pick(&self, step: usize, position: u32, earlier: &[u32]) -> bool {
+        match self.hangs_from[step] {
+            None => true,
+            Some(from) => self.inside((step, position), (from, earlier[from])),
+        }
+    }
+}

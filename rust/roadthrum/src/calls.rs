@@ -1,0 +1,65 @@
+//! The three calls.
+
+use crate::{raw, Refusal};
+
+/// What a call gives beside the rows in the lent buffer.
+#[derive(Clone, Copy, Debug, PartialEq, Eq)]
+pub struct Page {
+    /// The rows written, from the buffer's beginning.
+    pub rows: usize,
+    /// Whether a further record remains.
+    pub more: bool,
+    /// The position of the first record not written, or, if none remains, the number of labels in the returned step's list.
+    pub next: u32,
+}
+
+/// Whether the index is lawful, and if not, the first reason against it: one of the refusals 1 to 6.
+///
+/// ```
+/// use roadthrum::{check, Refusal};
+///
+/// assert_eq!(check(&days::small_day().to_bytes()), Ok(()));
+/// assert_eq!(check(b"\x00\x00\x02\x00"), Err(Refusal::OtherVersion));
+/// ```
+pub fn check(index: &[u8]) -> Result<(), Refusal> {
+    // SAFETY: the pointer and the length are those of one slice, which is only read.
+    let number = unsafe { raw::roadthrum_check(index.as_ptr(), index.len()) };
+    Refusal::unless_zero(number)
+}
+
+/// Writes to the buffer the list positions of the returned records from `place` on, as many as it has room for. On a refusal the buffer
+/// is as it was.
+///
+/// ```
+/// let index = days::small_day().to_bytes();
+/// let mut buffer = [7; 3];
+/// let page = roadthrum::answer(&index, b"//call[//cancel]", 0, &mut buffer)?;
+/// // The calls at positions 0 and 1, 1:20 and 4:15; the rest of the buffer stays. The list has five calls.
+/// assert_eq!((page.rows, page.more, page.next), (2, false, 5));
+/// assert_eq!(buffer, [0, 1, 7]);
+/// # Ok::<(), roadthrum::Refusal>(())
+/// ```
+pub fn answer(index: &[u8], question: &[u8], place: u32, buffer: &mut [u32]) -> Result<Page, Refusal> {
+    call(raw::roadthrum_answer, index, question, place, buffer)
+}
+
+/// Writes to the buffer a row for each returned record from `place` on, as many as it has room for: the list positions of the records that
+/// stand as evidence, one for each step of the question, the earliest at every step at once. On a refusal the buffer is as it was.
+///
+/// ```
+/// let index = days::small_day().to_bytes();
+/// let mut buffer = [0; 3];
+/// let page = roadthrum::evidence(&index, b"//call[//cancel]//board", 0, &mut buffer)?;
+/// // Boarding 8:9 inside call 1:20, which has the cancellation 2:3 inside.
+/// assert_eq!((page.rows, buffer), (1, [0, 0, 0]));
+/// # Ok::<(), roadthrum::Refusal>(())
+/// ```
+pub fn evidence(index: &[u8], question: &[u8], place: u32, buffer: &mut [u32]) -> Result<Page, Refusal> {
+    call(raw::roadthrum_evidence, index, question, place, buffer)
+}
+
+fn call(call: raw::Call, index: &[u8], question: &[u8], place: u32, buffer: &mut [u32]) -> Result<Page, Refusal> {
+    let [refusal, rows, more, next] = raw::call(call, index, question, place, buffer);
+    Refusal::unless_zero(refusal)?;
+    Ok(Page { rows: rows as usize, more: more != 0, next })
+}

@@ -1,0 +1,30 @@
+//! Questions put to a day of a building's lifts, answered with evidence.
+//!
+//! A day index holds, for each tag, the labels of its records; a question such as `//call[//board]` asks for the calls with a boarding
+//! somewhere inside. [`answer`] gives the list positions of the returned records, [`evidence`] gives for each of them one record for
+//! each step of the question, and [`check`] only says whether an index is lawful. What they give is proved for every byte string as index
+//! and as question: this crate hands the bytes to the proved library and its answer back, and adds types.
+//!
+//! ```
+//! // The small day: calls 1:20, 4:15, 7:12, 21:26 and 27:28, boardings 8:9 and 22:23.
+//! let index = days::small_day().to_bytes();
+//! let mut buffer = [0; 8];
+//! let page = roadthrum::evidence(&index, b"//call[//board]", 0, &mut buffer)?;
+//! // Four calls, each with the first boarding inside it. A row is a call's and a boarding's position in their lists.
+//! assert_eq!(page.rows, 4);
+//! assert_eq!(buffer, [0, 0, 1, 0, 2, 0, 3, 1]);
+//! assert!(!page.more);
+//! # Ok::<(), roadthrum::Refusal>(())
+//! ```
+//!
+//! Large answers come page by page, see [`evidence_pages`] and [`answer_pages`]. Each call checks its index first, which costs more the
+//! more records the day has; a page with room for many rows is checked as often as one with room for a few.
+
+mod calls;
+mod pages;
+pub mod raw;
+mod refusal;
+
+pub use calls::{answer, check, evidence, Page};
+pub use pages::{answer_pages, evidence_pages, Pages, Rows};
+pub use refusal::Refusal;

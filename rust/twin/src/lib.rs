@@ -1,0 +1,54 @@
+//! The library's algorithm in ordinary Rust, to hold its speed against.
+//!
+//! The steps are those of the library, one module for each of its rooms, and so is the order of growth; how a step is written is what
+//! suits Rust. Nothing here is proved.
+
+mod contents;
+mod cursors;
+mod label;
+mod lists;
+mod name;
+mod pages;
+mod question;
+mod sweep;
+
+use contents::{contents, find, Row};
+use cursors::Step;
+use pages::{write_page, Shown};
+
+pub use pages::Page;
+
+/// The number of the first reason for which the index is refused, or 0 for a lawful one.
+pub fn check(index: &[u8]) -> u32 {
+    checked(index).map_or_else(|refusal| refusal, |_| 0)
+}
+
+/// A page of the list positions of the returned records, from `place` on.
+pub fn answer(index: &[u8], question: &[u8], place: u32, out: &mut [u32]) -> Page {
+    respond(index, question, place, Shown::Returned, out).unwrap_or_else(Page::refused)
+}
+
+/// A page of rows, one for each returned record from `place` on, with the list position of each step's record.
+pub fn evidence(index: &[u8], question: &[u8], place: u32, out: &mut [u32]) -> Page {
+    respond(index, question, place, Shown::All, out).unwrap_or_else(Page::refused)
+}
+
+/// The rows of a lawful index.
+fn checked(index: &[u8]) -> Result<Vec<Row<'_>>, u32> {
+    let rows = contents(index)?;
+    if rows.iter().any(|row| lists::wrong(row.list)) {
+        return Err(5);
+    }
+    if sweep::wrong(rows.iter().map(|row| row.list).collect()) {
+        return Err(6);
+    }
+    Ok(rows)
+}
+
+/// What both calls do: check the index, read the question, find each step's list, and write a page.
+fn respond(index: &[u8], text: &[u8], place: u32, shown: Shown, out: &mut [u32]) -> Result<Page, u32> {
+    let rows = checked(index)?;
+    let question = question::read(text)?;
+    let steps: Vec<Step> = question.steps.iter().map(|step| Step { list: find(&rows, step.name), hangs: step.hangs }).collect();
+    Ok(write_page(&steps, question.returned, place, shown, out))
+}

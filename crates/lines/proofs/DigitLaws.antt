@@ -7,7 +7,7 @@ use native.Mathlib.Decide.{decLe}
 use mathlib.Core.Path.{_≡_, refl, sym, ap, subst, _∙_}
 use mathlib.Core.List.{List, [], _∷_, _++_, append-assoc, append-nil}
 use lib.ListN.{length, getD, take, drop, set, length-append, length-set, take-append-drop}
-use lib.Seq.{length-take-le, take-suc, take-at, set-at}
+use lib.Seq.{length-take-le, take-suc, take-at, drop-at, set-at}
 use Rattle.meaning.specs.Printing.{digits}
 use Rattle.lines.specs.Adding.{mostDigits, Adds, Places, AddsNumber}
 
@@ -56,6 +56,7 @@ pub record Spelling (entry : List ℕ) (to n k : ℕ) (line : List ℕ) (rest i 
   pub long : length line ≡ length entry
   pub done : List ℕ
   pub tail : List ℕ
+  pub kept : tail ≡ drop (to + k) entry
   pub spelt : digits i rest ++ done ≡ digits k n
   pub here : line ≡ take (to + i) entry ++ (done ++ tail)
 
@@ -66,6 +67,7 @@ spell-begin entry to n k i e = record {
   long = refl;
   done = [];
   tail = drop (to + i) entry;
+  kept = ap (λ (m : ℕ). drop (to + m) entry) e;
   spelt = append-nil (digits i n) ∙ ap (λ (m : ℕ). digits m n) e;
   here = sym (take-append-drop (to + i) entry);
 }
@@ -79,6 +81,7 @@ module _ (entry : List ℕ) (to n k : ℕ) (fits : to + k ≤ length entry) wher
     long = length-set line (to + j) (48 + rest % 10) ∙ s .long;
     done = (48 + rest % 10) ∷ s .done;
     tail = s .tail;
+    kept = s .kept;
     spelt = sym (append-assoc (digits j (rest / 10)) ((48 + rest % 10) ∷ []) (s .done)) ∙ subst (λ (m : ℕ). digits m rest ++ s .done ≡ digits k n) e (s .spelt);
     here = ap (λ (l : List ℕ). set l (to + j) (48 + rest % 10)) apart ∙ set-at (take (to + j) entry) (getD entry (to + j) 0) (s .done ++ s .tail) (48 + rest % 10) (to + j) (length-take-le (to + j) entry (omega (arith, s .within)));
   }
@@ -93,6 +96,7 @@ module _ (entry : List ℕ) (to n k : ℕ) (fits : to + k ≤ length entry) wher
   spell-end line rest i e s = record {
     ends = omega (arith, length-digits k n);
     text = ap (λ (l : List ℕ). take (to + k) l) apart ∙ take-at (take to entry ++ digits k n) (s .tail) (to + k) long;
+    rest = record { same = ap (λ (l : List ℕ). drop (to + k) l) apart ∙ drop-at (take to entry ++ digits k n) (s .tail) (to + k) long ∙ s .kept };
   }
     where
       all : s .done ≡ digits k n

@@ -2,12 +2,12 @@
 ghost use Prim.Native.Nat.{ℕ, _+_, _*_, _%_, _≤_, _<_};
 ghost use mathlib.Core.Path.{_≡_};
 ghost use mathlib.Core.List.{[], _∷_};
-ghost use lib.ListN.{length, take};
+ghost use lib.ListN.{length};
 ghost use Rattle.meaning.specs.Limits.{mostSteps};
 ghost use Rattle.meaning.specs.Day.{labelAt};
 ghost use Rattle.meaning.specs.Picks.{at};
-ghost use Rattle.meaning.specs.Printing.{digits, LineText};
-ghost use Rattle.lines.specs.Adding.{mostDigits, mostRecord, Adds, Places, AddsNumber, AddsRecord};
+ghost use Rattle.meaning.specs.Printing.{digits};
+ghost use Rattle.lines.specs.Adding.{mostDigits, mostRecord, Adds, Places, AddsNumber, AddsRecord, Written};
 use meaning::Label;
 use meaning::Step;
 
@@ -86,7 +86,7 @@ fn put_record(line: &mut [u8], to: usize, label: Label) -> usize
 }
 
 // Writes the line of the row of k list positions that stands in `rows` from `from` on, where `offsets` says where each step's body begins,
-// and answers how many bytes it has.
+// and answers how many bytes it has. The rest of the buffer stays.
 pub fn write_line(
     index: &[u8],
     k: usize,
@@ -96,7 +96,7 @@ pub fn write_line(
     line: &mut [u8; Line::MOST_BYTES],
 ) -> usize
     requires { ⌜ (1 ≤ k) × (k ≤ mostSteps) × (from + k ≤ length (now rows)) × (length (now offsets) ≡ mostSteps) × ((s : ℕ) → s < k → at (now offsets) s + 8 * at (now rows) (from + s) + 8 ≤ length (now index)) ⌝ }
-    ensures { λ r. ⌜ LineText (λ s. labelAt (now (index .entry)) (at (now (offsets .entry)) s) (at (now (rows .entry)) (from + s))) k (take r (now (line .exit))) × (r ≤ length (now (line .exit))) ⌝ }
+    ensures { λ r. ⌜ Written (λ s. labelAt (now (index .entry)) (at (now (offsets .entry)) s) (at (now (rows .entry)) (from + s))) k (now (line .entry)) (now (line .exit)) r ⌝ }
 {
     let mut to = 0;
     let mut s = 0;

@@ -11,6 +11,9 @@ use meaning::Step;
 
 const OUT: i32 = libc::STDOUT_FILENO;
 
+// Numbers of a page: 64 rows of the longest question. Each page checks the index again, so that more rows on a page are fewer checks.
+const ROOM: usize = 64 * Step::MOST;
+
 // Prints a word and a number, on a line by themselves.
 fn print_count(word: &[u8], number: u64) {
     io::write_all(OUT, word);
@@ -52,7 +55,7 @@ fn print_rows(index: &[u8], text: &[u8], rows: &[u32], page: Page)
 
 // Prints all evidence, page by page, and how many rows there were, or the refusal.
 pub fn show(index: &[u8], text: &[u8]) {
-    let mut rows = [0u32; Step::MOST * 64];
+    let mut rows = [0u32; ROOM];
     let mut place = 0;
     let mut total = 0;
     loop {

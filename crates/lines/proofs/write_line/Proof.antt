@@ -13,7 +13,7 @@ use Rattle.meaning.specs.Day.{labelAt}
 use Rattle.meaning.specs.Picks.{at}
 use Rattle.meaning.specs.Printing.{LineText}
 use Rattle.lines.specs.Adding.{Adds, AddsRecord}
-use Rattle.lines.proofs.StepLaws.{Begun, nothing, Ready, begun-room, ready-room, ready-same, ready-first, ready-next, begun-more, line-of}
+use Rattle.lines.proofs.StepLaws.{Begun, nothing, Ready, begun-room, ready-room, ready-same, ready-first, ready-next, begun-more, line-of, line-kept}
 use Rattle.lines.proofs.write_line.Statement.{statement}
 use Rattle.lines.proofs.write_line.Tie as tie
 
@@ -22,7 +22,7 @@ abbrev labelsOf : List ℕ → List ℕ → List ℕ → ℕ → ℕ → Label
 labelsOf index offsets rows from s = labelAt index (at offsets s) (at rows (from + s))
 
 abbrev Inv-loop : tie.InvT-loop
-Inv-loop index k offsets rows from line₀ to₀ s₀ line to s = (s ≤ k) × Begun (labelsOf index offsets rows from) line to s
+Inv-loop index k offsets rows from line₀ to₀ s₀ line to s = (s ≤ k) × Begun (labelsOf index offsets rows from) line₀ line to s
 
 abbrev μ-loop : tie.MeasureT-loop
 μ-loop index k offsets rows from line₀ to₀ s₀ line to s = k - s
@@ -40,7 +40,7 @@ abbrev labels : tie.At-loop Inv-loop μ-loop → ℕ → Label
 labels l = labelsOf (start l .args .index .now) (start l .args .offsets .now) (start l .args .rows .now) (start l .args .from)
 
 -- Behind the blank, or at the very beginning, a record can be written.
-ready : (j : tie.Joined1 Inv-loop μ-loop) → Ready (labels (at-loop j)) (j .if1 .line) (j .if1 .to) (at-loop j .loop .s)
+ready : (j : tie.Joined1 Inv-loop μ-loop) → Ready (labels (at-loop j)) (start (at-loop j) .args .line .now) (j .if1 .line) (j .if1 .to) (at-loop j .loop .s)
 ready j =
     ⊎-elim
     (λ w.
@@ -49,7 +49,7 @@ ready j =
     (λ w. ready-same (w .1) (w .2) (ready-first begun (w .0 .left)))
     (j .if1 .came)
   where
-    begun : Begun (labels (at-loop j)) (at-loop j .loop .line) (at-loop j .loop .to) (at-loop j .loop .s)
+    begun : Begun (labels (at-loop j)) (start (at-loop j) .args .line .now) (at-loop j .loop .line) (at-loop j .loop .to) (at-loop j .loop .s)
     begun = at-loop j .loop .inv .1
 
 -- Behind the loop all steps are written, of which there is at least one.
@@ -57,7 +57,7 @@ done : (e : tie.After-loop Inv-loop μ-loop) → 0 < e .before .loop .s
 done e = omega (arith, start (e .before) .pre .0)
 
 loop-holds : tie.Need-loop-holds Inv-loop μ-loop
-loop-holds c = (omega arith, nothing refl refl)
+loop-holds c = (omega arith, nothing refl refl (record { same = refl }))
 
 put-requires : tie.Need-put-requires Inv-loop μ-loop
 put-requires c κs = omega (arith, c .put-arg .given, begun-room (c .before .before .before .loop .inv .1) (omega arith))
@@ -103,10 +103,12 @@ put-requires-2 c κs = omega (arith, c .put-arg2 .given, begun-room (c .before .
 returns : tie.Need-returns Inv-loop μ-loop
 returns c =
     let end = c .before .before in
-    let all = le-antisymm (end .before .loop .inv .0) (end .loop-test .left) in (
-      subst (λ (n : ℕ). LineText (labels (end .before)) n (take (c .put2 .result) (c .put2 .last .0))) all (line-of (end .before .loop .inv .1) (done end) (c .put2 .ensures)),
-      omega (arith, c .put2 .ensures .ends, c .put2 .kept .0, c .before .put-arg2 .given, begun-room (end .before .loop .inv .1) (done end), start (end .before) .pre .1),
-    )
+    let all = le-antisymm (end .before .loop .inv .0) (end .loop-test .left) in
+    record {
+      line = subst (λ (n : ℕ). LineText (labels (end .before)) n (take (c .put2 .result) (c .put2 .last .0))) all (line-of (end .before .loop .inv .1) (done end) (c .put2 .ensures));
+      within = omega (arith, c .put2 .ensures .ends, c .put2 .kept .0, c .before .put-arg2 .given, begun-room (end .before .loop .inv .1) (done end), start (end .before) .pre .1);
+      rest = line-kept (end .before .loop .inv .1) (c .put2 .ensures);
+    }
 
 pub write-line-spec : {M : Type 1} → statement M
 write-line-spec =

@@ -28,7 +28,7 @@ pub record Held (t : Lists) (stack : ℕ → Place) (starts ends : List ℕ) (de
 
 -- The sweep between two turns.
 pub record Standing (b : List ℕ) (m : ℕ) (tree places starts ends : List ℕ) (s : State) (stack : ℕ → Place) : Type 0 where
-  pub ready : Ready b m tree places (s .depth)
+  pub ready : Ready b m tree places (s .depth) (s .key)
   pub swept : Swept (listsOf b) (nth places) stack (s .depth)
   pub inner : Innermost (listsOf b) stack s
   pub held : Held (listsOf b) stack starts ends (s .depth)
@@ -40,7 +40,7 @@ Round false b m tree places starts ends s = Decides (Tangled (listsOf b)) (s .wr
 
 -- The state with the innermost record that was read.
 abbrev pub reread : State → Open → State
-reread s o = record { going = s .going; wrong = s .wrong; put = s .put; at = s .at; depth = s .depth; inner = o }
+reread s o = record { going = s .going; wrong = s .wrong; put = s .put; at = s .at; depth = s .depth; inner = o; key = s .key }
 
 -- How many labels of the first k lists are left past the cursors.
 unfoldable pub left : (ℕ → ℕ) → (ℕ → ℕ) → ℕ → ℕ
@@ -87,12 +87,12 @@ zeros-at (suc n) (suc i) = zeros-at n i
 
 -- The first turn begins.
 pub round-begin : (b : List ℕ) (m : ℕ) (tree places starts ends : List ℕ) (s : State) → Placed b → Ordered (listsOf b) → m ≡ tags b → 0 < m → Keys (listsOf b) (λ r. 0) tree → places ≡ replicate mostTags 0
-    → length starts ≡ mostNested → length ends ≡ mostNested → s .going ≡ true → s .depth ≡ 0 → Round (s .going) b m tree places starts ends s
-round-begin b m tree places starts ends s placed ordered m-is some keys e sl el g z =
+    → length starts ≡ mostNested → length ends ≡ mostNested → s .going ≡ true → s .depth ≡ 0 → s .key ≡ nth tree 1 → Round (s .going) b m tree places starts ends s
+round-begin b m tree places starts ends s placed ordered m-is some keys e sl el g z least =
     subst (λ (g : Bool). Round g b m tree places starts ends s) (sym g) (
       λ k. record { list = 0; at = 0 },
       record {
-        ready = record { placed = placed; ordered = ordered; m-is = m-is; some = some; keys = record { tree = keys .tree; key = λ r l. rw (zero-at r) (keys .key r l) }; long = ap length e ∙ length-replicate {A = ℕ} mostTags 0; shallow = omega arith };
+        ready = record { placed = placed; ordered = ordered; m-is = m-is; some = some; keys = record { tree = keys .tree; key = λ r l. rw (zero-at r) (keys .key r l) }; long = ap length e ∙ length-replicate {A = ℕ} mostTags 0; shallow = omega arith; least = least };
         swept = subst (λ (n : ℕ). Swept (listsOf b) (nth places) (λ k. record { list = 0; at = 0 }) n) (sym z) (sweep-begin (listsOf b) (nth places) _ zero-at);
         inner = λ k f. absurd (omega arith);
         held = record { starts-long = sl; ends-long = el; start-is = λ k l. absurd (omega arith); end-is = λ k l. absurd (omega arith) };
@@ -162,15 +162,15 @@ module _ (b : List ℕ) (m : ℕ) (tree places starts ends : List ℕ) (s : Stat
           subst (λ (g : Bool). Round g b m tree′ places′ starts ends (reread s′ o)) (sym e) (
             stack,
             record {
-              ready = subst (λ (xs : List ℕ). Ready b m xs places′ (s′ .depth)) (sym te) (subst (λ (xs : List ℕ). Ready b m tree xs (s′ .depth)) (sym pe) ready);
+              ready = subst (λ (xs : List ℕ). Ready b m xs places′ (s′ .depth) (s′ .key)) (sym te) (subst (λ (xs : List ℕ). Ready b m tree xs (s′ .depth) (s′ .key)) (sym pe) ready);
               swept = subst (λ (xs : List ℕ). Swept (listsOf b) (nth xs) stack (s′ .depth)) (sym pe) (c .swept);
               inner = inner;
               held = record { starts-long = w .held .starts-long; ends-long = w .held .ends-long; start-is = λ k l. w .held .start-is k (omega (arith, c .one)); end-is = λ k l. w .held .end-is k (omega (arith, c .one)) };
             },
           )
         where
-          ready : Ready b m tree places (s′ .depth)
-          ready = record { placed = w .ready .placed; ordered = w .ready .ordered; m-is = w .ready .m-is; some = w .ready .some; keys = w .ready .keys; long = w .ready .long; shallow = omega (arith, w .ready .shallow, c .one) }
+          ready : Ready b m tree places (s′ .depth) (s′ .key)
+          ready = record { placed = w .ready .placed; ordered = w .ready .ordered; m-is = w .ready .m-is; some = w .ready .some; keys = w .ready .keys; long = w .ready .long; shallow = omega (arith, w .ready .shallow, c .one); least = c .key ∙ w .ready .least }
 
           inner : Innermost (listsOf b) stack (reread s′ o)
           inner k f = record {

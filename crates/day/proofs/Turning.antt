@@ -29,33 +29,33 @@ pub record Picked (t : Lists) (pos : ℕ → ℕ) (r start : ℕ) : Type 0 where
   pub start-is : start ≡ startOf t (next pos r)
   pub least : Least t pos r
 
-module _ (b : List ℕ) (m : ℕ) (tree places : List ℕ) (depth : ℕ) (ready : Ready b m tree places depth) where
-  -- The root of the tournament names the list whose next label starts least.
-  pub turn-pick : nth tree 1 < past → Picked (listsOf b) (nth places) (nth tree 1 % mostTags) (nth tree 1 / mostTags)
+module _ (b : List ℕ) (m : ℕ) (tree places : List ℕ) (depth key : ℕ) (ready : Ready b m tree places depth key) where
+  -- The least key names the list whose next label starts least.
+  pub turn-pick : key < past → Picked (listsOf b) (nth places) (key % mostTags) (key / mostTags)
   turn-pick h = go (root-leaf (tags b) tree (ready .keys .tree) (omega (arith, ready .some, ready .m-is)))
     where
-      go : (j : ℕ) × (j < tags b) × (nth tree (tags b + j) ≡ nth tree 1) → Picked (listsOf b) (nth places) (nth tree 1 % mostTags) (nth tree 1 / mostTags)
+      go : (j : ℕ) × (j < tags b) × (nth tree (tags b + j) ≡ nth tree 1) → Picked (listsOf b) (nth places) (key % mostTags) (key / mostTags)
       go (j, l, e) = here (decLe (listsOf b .count j) (nth places j))
         where
-          key : Key (listsOf b) j (nth places j) (nth tree (tags b + j))
-          key = ready .keys .key j l
+          its : Key (listsOf b) j (nth places j) (nth tree (tags b + j))
+          its = ready .keys .key j l
 
-          here : Dec (listsOf b .count j ≤ nth places j) → Picked (listsOf b) (nth places) (nth tree 1 % mostTags) (nth tree 1 / mostTags)
-          here (yes k) = absurd (omega (arith, key .none k))
+          here : Dec (listsOf b .count j ≤ nth places j) → Picked (listsOf b) (nth places) (key % mostTags) (key / mostTags)
+          here (yes k) = absurd (omega (arith, its .none k, ready .least))
           here (no d) =
               let room : nth places j < listsOf b .count j = lt-of-not-le d in
-              let is : nth tree 1 ≡ mostTags * startOf (listsOf b) (next (nth places) j) + j = sym e ∙ key .some room in
+              let is : key ≡ mostTags * startOf (listsOf b) (next (nth places) j) + j = ready .least ∙ sym e ∙ its .some room in
               let few : j < mostTags = omega (arith, ready .placed .few) in
-              let num : j ≡ nth tree 1 % mostTags = omega arith in
-              subst (λ (r : ℕ). Picked (listsOf b) (nth places) r (nth tree 1 / mostTags)) num (record {
+              let num : j ≡ key % mostTags = omega arith in
+              subst (λ (r : ℕ). Picked (listsOf b) (nth places) r (key / mostTags)) num (record {
                 list-lt = l;
                 room = room;
                 start-is = omega arith;
-                least = least-of-all (listsOf b) (ready .ordered) (nth places) j (record { holds = record { list-lt = l; at-lt = room }; ahead = omega arith }) (λ s sl sc. omega (arith, is, root-least (tags b) tree (ready .keys .tree) s sl, ready .keys .key s sl .some sc));
+                least = least-of-all (listsOf b) (ready .ordered) (nth places) j (record { holds = record { list-lt = l; at-lt = room }; ahead = omega arith }) (λ s sl sc. omega (arith, is, ready .least, root-least (tags b) tree (ready .keys .tree) s sl, ready .keys .key s sl .some sc));
               })
 
-  -- When the root is past all keys, every list is passed and nothing is tangled.
-  pub turn-done : (stack : ℕ → Place) → Swept (listsOf b) (nth places) stack depth → past ≤ nth tree 1 → Tangled (listsOf b) → ⊥
+  -- When the least key is past all keys, every list is passed and nothing is tangled.
+  pub turn-done : (stack : ℕ → Place) → Swept (listsOf b) (nth places) stack depth → past ≤ key → Tangled (listsOf b) → ⊥
   turn-done stack swept h = sweep-end (listsOf b) (ready .ordered) (nth places) stack depth swept done
     where
       done : (r : ℕ) → r < tags b → listsOf b .count r ≤ nth places r
@@ -63,15 +63,16 @@ module _ (b : List ℕ) (m : ℕ) (tree places : List ℕ) (depth : ℕ) (ready 
         where
           go : Dec (listsOf b .count r ≤ nth places r) → listsOf b .count r ≤ nth places r
           go (yes k) = k
-          go (no d) = absurd (omega (arith, ready .keys .key r l .small (lt-of-not-le d), root-least (tags b) tree (ready .keys .tree) r l))
+          go (no d) = absurd (omega (arith, ready .keys .key r l .small (lt-of-not-le d), ready .least, root-least (tags b) tree (ready .keys .tree) r l))
 
 module _ (t : Lists) (law : Ordered t) (places : List ℕ) (s : State) (stack : ℕ → Place) (swept : Swept t (nth places) stack (s .depth)) (inner : Innermost t stack s) (r start : ℕ) (picked : Picked t (nth places) r start) where
   -- The innermost record ends before the next label starts: it is closed.
-  pub turn-close : (s′ : State) → Closes (s .depth) (s .inner) start → s′ .depth ≡ s .depth - 1 → Topmost s′ → Closed t places stack s s′
-  turn-close s′ c e top = record {
+  pub turn-close : (s′ : State) → Closes (s .depth) (s .inner) start → s′ .depth ≡ s .depth - 1 → Topmost s′ → s′ .key ≡ s .key → Closed t places stack s s′
+  turn-close s′ c e top same = record {
     one = one;
     top = top;
     swept = sweep-pop t (nth places) stack (s .depth) r swept (picked .least) (s′ .depth) one (omega (arith, c .1, inner (s′ .depth) one .end, picked .start-is));
+    key = same;
   }
     where
       one : s .depth ≡ suc (s′ .depth)
@@ -136,9 +137,9 @@ pub moved-set : (places : List ℕ) (r : ℕ) → r < length places → Moved (n
 moved-set places r l = record { here = getD-set-same places r (nth places r + 1) 0 l ∙ add-one (nth places r); other = λ s d. getD-set-other places r s (nth places r + 1) 0 d }
 
 -- With list r's next key put into the tournament, the next turn is ready.
-pub ready-on : (b : List ℕ) (m : ℕ) (tree places : List ℕ) (depth : ℕ) → Ready b m tree places depth → (r k : ℕ) → r < tags b → Key (listsOf b) r (nth places r + 1) k → (tree′ : List ℕ) → Put m r k tree tree′ → (depth′ : ℕ) → depth′ ≤ mostNested
-    → Ready b m tree′ (set places r (nth places r + 1)) depth′
-ready-on b m tree places depth ready r k l key tree′ put depth′ shallow = record {
+pub ready-on : (b : List ℕ) (m : ℕ) (tree places : List ℕ) (depth key : ℕ) → Ready b m tree places depth key → (r k : ℕ) → r < tags b → Key (listsOf b) r (nth places r + 1) k → (tree′ : List ℕ) → Put m r k tree tree′ → (depth′ key′ : ℕ) → depth′ ≤ mostNested → key′ ≡ nth tree′ 1
+    → Ready b m tree′ (set places r (nth places r + 1)) depth′ key′
+ready-on b m tree places depth key ready r k l new tree′ put depth′ key′ shallow least = record {
   placed = ready .placed;
   ordered = ready .ordered;
   m-is = ready .m-is;
@@ -146,6 +147,7 @@ ready-on b m tree places depth ready r k l key tree′ put depth′ shallow = re
   keys = record { tree = put′ .tree; key = λ j jl. keys j jl (ℕ-discrete j r) };
   long = simp length-set (ready .long);
   shallow = shallow;
+  least = least;
 }
   where
     put′ : Put (tags b) r k tree tree′
@@ -155,5 +157,5 @@ ready-on b m tree places depth ready r k l key tree′ put depth′ shallow = re
     r-lt = omega (arith, ready .long, ready .placed .few)
 
     keys : (j : ℕ) → j < tags b → Dec (j ≡ r) → Key (listsOf b) j (nth (set places r (nth places r + 1)) j) (nth tree′ (tags b + j))
-    keys j jl (yes f) = rw (f, getD-set-same places r (nth places r + 1) 0 r-lt, put′ .here) key
+    keys j jl (yes f) = rw (f, getD-set-same places r (nth places r + 1) 0 r-lt, put′ .here) new
     keys j jl (no d) = rw (getD-set-other places r j (nth places r + 1) 0 d, put′ .other j jl d) (ready .keys .key j jl)

@@ -100,7 +100,7 @@ abbrev pub Topmost : State → Type 0
 Topmost s = (k : ℕ) → s .depth ≡ suc k → s .at ≡ k
 
 -- What a turn may count on.
-pub record Ready (b : List ℕ) (m : ℕ) (tree places : List ℕ) (depth : ℕ) : Type 0 where
+pub record Ready (b : List ℕ) (m : ℕ) (tree places : List ℕ) (depth key : ℕ) : Type 0 where
   pub placed : Placed b
   pub ordered : Ordered (listsOf b)
   pub m-is : m ≡ tags b
@@ -108,12 +108,14 @@ pub record Ready (b : List ℕ) (m : ℕ) (tree places : List ℕ) (depth : ℕ)
   pub keys : Keys (listsOf b) (nth places) tree
   pub long : length places ≡ mostTags
   pub shallow : depth ≤ mostNested
+  pub least : key ≡ nth tree 1
 
 -- A turn that closes the innermost record.
 pub record Closed (t : Lists) (places : List ℕ) (stack : ℕ → Place) (s s′ : State) : Type 0 where
   pub one : s .depth ≡ suc (s′ .depth)
   pub top : Topmost s′
   pub swept : Swept t (nth places) stack (s′ .depth)
+  pub key : s′ .key ≡ s .key
 
 -- A turn that opens the label next in a list.
 pub record Opened (t : Lists) (places places′ : List ℕ) (stack : ℕ → Place) (s s′ : State) : Type 0 where
@@ -130,7 +132,7 @@ pub record Opened (t : Lists) (places places′ : List ℕ) (stack : ℕ → Pla
 pub data Judged (b : List ℕ) (m : ℕ) (tree places : List ℕ) (stack : ℕ → Place) (s : State) (tree′ places′ : List ℕ) (s′ : State) : Type 0 where
   over : s′ .going ≡ false → s′ .put ≡ false → Decides (Tangled (listsOf b)) (s′ .wrong) → Judged b m tree places stack s tree′ places′ s′
   closing : s′ .going ≡ true → s′ .put ≡ false → tree′ ≡ tree → places′ ≡ places → Closed (listsOf b) places stack s s′ → Judged b m tree places stack s tree′ places′ s′
-  opening : s′ .going ≡ true → s′ .put ≡ true → Ready b m tree′ places′ (s′ .depth) → Opened (listsOf b) places places′ stack s s′ → Judged b m tree places stack s tree′ places′ s′
+  opening : s′ .going ≡ true → s′ .put ≡ true → Ready b m tree′ places′ (s′ .depth) (s′ .key) → Opened (listsOf b) places places′ stack s s′ → Judged b m tree places stack s tree′ places′ s′
 
 -- The contract of a turn: whichever records the state's open ones are, it judges rightly.
 abbrev pub Turned : List ℕ → ℕ → List ℕ → List ℕ → State → List ℕ → List ℕ → State → Type 0

@@ -27,6 +27,8 @@ pub struct State {
     // How many records are open, and the innermost of them.
     pub depth: usize,
     pub inner: Open,
+    // The least key of the tournament, kept here so that no turn waits for the root to be read back.
+    pub key: u64,
 }
 
 // The state when the sweep is over.
@@ -40,6 +42,7 @@ fn over(wrong: bool) -> State
         at: 0,
         depth: 0,
         inner: Open { start: 0, end: 0 },
+        key: 0,
     }
 }
 
@@ -54,10 +57,10 @@ fn place_of(depth: usize) -> usize
     depth - 1
 }
 
-// The state when `depth` records are open and the innermost of them is to come from the table.
-fn closed(depth: usize) -> State
+// The state when `depth` records are open, the innermost of them is to come from the table, and `key` is the least key.
+fn closed(depth: usize, key: u64) -> State
     requires { ⌜ depth ≤ mostNested ⌝ }
-    ensures { λ s. ⌜ (s .going ≡ true) × (s .put ≡ false) × (s .at < mostNested) × (s .depth ≡ depth) × Topmost s ⌝ }
+    ensures { λ s. ⌜ (s .going ≡ true) × (s .put ≡ false) × (s .at < mostNested) × (s .depth ≡ depth) × Topmost s × (s .key ≡ key) ⌝ }
 {
     State {
         going: true,
@@ -66,13 +69,14 @@ fn closed(depth: usize) -> State
         at: place_of(depth),
         depth: depth,
         inner: Open { start: 0, end: 0 },
+        key: key,
     }
 }
 
-// The state when a record is opened inside `depth` others.
-fn opened(depth: usize, start: u32, end: u32) -> State
+// The state when a record is opened inside `depth` others, and `key` is the least key then.
+fn opened(depth: usize, start: u32, end: u32, key: u64) -> State
     requires { ⌜ depth < mostNested ⌝ }
-    ensures { λ s. ⌜ (s .going ≡ true) × (s .put ≡ true) × (s .at ≡ depth) × (s .depth ≡ suc depth) × (s .inner .start ≡ start) × (s .inner .end ≡ end) ⌝ }
+    ensures { λ s. ⌜ (s .going ≡ true) × (s .put ≡ true) × (s .at ≡ depth) × (s .depth ≡ suc depth) × (s .inner .start ≡ start) × (s .inner .end ≡ end) × (s .key ≡ key) ⌝ }
 {
     State {
         going: true,
@@ -81,6 +85,7 @@ fn opened(depth: usize, start: u32, end: u32) -> State
         at: depth,
         depth: depth + 1,
         inner: Open { start, end },
+        key: key,
     }
 }
 
@@ -124,11 +129,11 @@ fn judge(
     places: &mut [usize; Index::MOST_TAGS],
     s: State,
 ) -> State
-    requires { ⌜ Ready (now index) m (now tree) (now places) (s .depth) ⌝ }
+    requires { ⌜ Ready (now index) m (now tree) (now places) (s .depth) (s .key) ⌝ }
     ensures turned { λ r. ⌜ Turned (now (index .entry)) m (now (tree .entry)) (now (places .entry)) s (now (tree .exit)) (now (places .exit)) r ⌝ }
     ensures fits { λ r. ⌜ r .at < mostNested ⌝ }
 {
-    let key = tree[tournament::ROOT];
+    let key = s.key;
     if tournament::PAST <= key {
         return over(false);
     }
@@ -136,7 +141,7 @@ fn judge(
     let depth = s.depth;
     let inner = s.inner;
     if closes(depth, inner, start) {
-        return closed(depth - 1);
+        return closed(depth - 1, key);
     }
     let r = tournament::list_of(key);
     let p = places[r];
@@ -147,8 +152,8 @@ fn judge(
     }
     places[r] = p + 1;
     let after = tournament::key_of(index, r, p + 1);
-    tournament::put(tree, m, r, after);
-    opened(depth, start, end)
+    let least = tournament::put(tree, m, r, after);
+    opened(depth, start, end, least)
 }
 
 // The lists' cursors before the first turn.
@@ -167,7 +172,8 @@ fn sweep(index: &[u8], m: usize) -> bool
     let mut places = first_places();
     let mut starts = open::none();
     let mut ends = open::none();
-    let mut s = closed(0);
+    let least = tree[tournament::ROOT];
+    let mut s = closed(0, least);
     while s.going {
         s = judge(index, m, &mut tree, &mut places, s);
         if s.put {

@@ -1,12 +1,12 @@
 // The tournament of the lists' next starts: it says which list has the least, and after that list has moved on only the nodes above it
 // are played again. Number r of the m that play is list r's key, its next start and then r; node i holds the lesser of nodes 2i and 2i + 1.
 ghost use mathlib.Core.Path.{_≡_};
-ghost use Prim.Native.Nat.{_/_, _%_, _<_, _≤_};
+ghost use Prim.Native.Nat.{_+_, _*_, _/_, _%_, _<_, _≤_};
 ghost use lib.ListN.{replicate};
 ghost use Rattle.meaning.specs.Limits.{mostTags};
 ghost use Rattle.meaning.specs.Day.{tags, listsOf};
 ghost use Rattle.day.specs.Parts.{Placed};
-ghost use Rattle.day.specs.Tournament.{Lesser, Tree, Put, Key, Keys, nodes, past};
+ghost use Rattle.day.specs.Tournament.{nth, Lesser, Tree, Put, Key, Keys, nodes, past};
 use super::rows;
 use meaning::Index;
 
@@ -32,20 +32,29 @@ fn lesser(a: u64, b: u64) -> u64
     if a <= b { a } else { b }
 }
 
-// Number `leaf` becomes `key`, and the nodes above it are played again.
-pub fn put(tree: &mut [u64; NODES], m: usize, leaf: usize, key: u64)
+// The node that plays against node i.
+fn beside(i: usize) -> usize
+    ensures { λ r. ⌜ r + 2 * (i % 2) ≡ i + 1 ⌝ }
+{
+    i ^ 1
+}
+
+// Number `leaf` becomes `key`, the nodes above it are played again, and the answer is the least of all.
+pub fn put(tree: &mut [u64; NODES], m: usize, leaf: usize, key: u64) -> u64
     requires { ⌜ (m ≤ mostTags) × (leaf < m) × Tree m (now tree) ⌝ }
-    ensures { λ r. ⌜ Put m leaf key (now (tree .entry)) (now (tree .exit)) ⌝ }
+    ensures { λ r. ⌜ Put m leaf key (now (tree .entry)) (now (tree .exit)) × (r ≡ nth (now (tree .exit)) 1) ⌝ }
 {
     let mut i = m + leaf;
-    tree[i] = key;
-    i = i / 2;
-    while 0 < i {
-        let a = tree[2 * i];
-        let b = tree[2 * i + 1];
-        tree[i] = lesser(a, b);
+    // Node i's number, kept here so that no level waits for what the one below it stored.
+    let mut best = key;
+    tree[i] = best;
+    while 1 < i {
+        let sibling = tree[beside(i)];
+        best = lesser(best, sibling);
         i = i / 2;
+        tree[i] = best;
     }
+    best
 }
 
 // The key of list r at position p.

@@ -26,18 +26,36 @@ module _ (f : ℕ → ℕ) (n v : ℕ) where
         go (inr l) = omega (arith, ascends i j l jn)
 
     module _ (lo left half : ℕ) (w : Narrowed f n v lo left) (inside : half < left) where
-      -- The number looked at is at most v: so are all before it.
-      pub narrow-up : f (lo + half) ≤ v → Narrowed f n v (lo + (half + 1)) (left - (half + 1))
+      -- The number looked at is at most v: so are all before it, which are dropped. It becomes the first of those left.
+      pub narrow-up : f (lo + half) ≤ v → Narrowed f n v (lo + half) (left - half)
       narrow-up h = record {
         within = omega arith;
         first = λ i l. omega (arith, no-less i (lo + half) (omega arith) (omega arith));
         rest = λ i l m. w .rest i (omega arith) m;
       }
 
-      -- The number looked at is more than v: so are all after it.
-      pub narrow-down : v < f (lo + half) → Narrowed f n v lo half
-      narrow-down h = record {
+      -- The number looked at is more than v: so are all after it. As many are dropped, from the end of those left: as they are at most
+      -- one half, none of them stands before the number looked at.
+      pub narrow-down : half ≤ left - half → v < f (lo + half) → Narrowed f n v lo (left - half)
+      narrow-down most h = record {
         within = omega arith;
         first = w .first;
-        rest = λ i l m. omega (arith, no-less (lo + half) i l m);
+        rest = λ i l m. omega (arith, no-less (lo + half) i (omega arith) m);
+      }
+
+    module _ (lo left : ℕ) (w : Narrowed f n v lo left) (one : left ≡ 1) where
+      -- The one number that is left is at most v: it is counted too.
+      pub last-up : f lo ≤ v → Narrowed f n v (lo + 1) 0
+      last-up h = record {
+        within = omega arith;
+        first = λ i l. omega (arith, no-less i lo (omega arith) (omega arith));
+        rest = λ i l m. w .rest i (omega arith) m;
+      }
+
+      -- The one number that is left is more than v: it is not counted.
+      pub last-down : v < f lo → Narrowed f n v lo 0
+      last-down h = record {
+        within = omega arith;
+        first = w .first;
+        rest = λ i l m. omega (arith, no-less lo i (omega arith) m);
       }

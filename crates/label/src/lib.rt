@@ -64,22 +64,27 @@ pub fn label_at(s: &[u8], at: usize, i: usize) -> Label
 }
 
 // How many of the n labels of the body that begins at `at` start at or before `v`. They ascend by start, so a look at the one in
-// the middle of those that are left settles one half of them.
+// the middle of those that are left settles one half of them. How many are left does not depend on what was found there, so that
+// a round waits for one choice only. `first` is the start of label `base`. It spares a last look, and with it LLVM makes the choice
+// by conditional moves: for `base` alone it makes a branch, which the processor often guesses wrong.
 pub fn started(s: &[u8], at: usize, n: usize, v: u32) -> usize
     requires { ⌜ (at + 8 * n ≤ length (now s)) × Ascends (now s) at n ⌝ }
     ensures { λ r. ⌜ Started (now (s .entry)) at n v r ⌝ }
 {
-    let mut lo = 0;
-    let mut left = n;
-    while 0 < left {
-        let half = left / 2;
-        let x = start_at(s, at, lo + half);
-        if x <= v {
-            lo += half + 1;
-            left -= half + 1;
-        } else {
-            left = half;
-        }
+    if n == 0 {
+        return 0;
     }
-    lo
+    let mut base = 0;
+    let mut first = start_at(s, at, 0);
+    let mut size = n;
+    while 1 < size {
+        let half = size / 2;
+        let x = start_at(s, at, base + half);
+        if x <= v {
+            base += half;
+            first = x;
+        }
+        size -= half;
+    }
+    if first <= v { base + 1 } else { base }
 }

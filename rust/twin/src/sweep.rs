@@ -27,20 +27,22 @@ impl Tournament {
         Tournament { nodes }
     }
 
-    /// The number of the list with the least next start, while one has a label left.
-    fn first(&self) -> Option<usize> {
-        let least = *self.nodes.get(1)?;
-        (least < PAST).then_some((least & 0xff) as usize)
+    /// The least key; `PAST` where there is no list.
+    fn least(&self) -> u64 {
+        self.nodes.get(1).copied().unwrap_or(PAST)
     }
 
-    /// List number `tag` has moved on to `key`: the nodes above it are played again.
-    fn put(&mut self, tag: usize, key: u64) {
+    /// List number `tag` has moved on to `key`: the nodes above it are played again. Gives the least key then.
+    fn put(&mut self, tag: usize, key: u64) -> u64 {
         let mut i = self.nodes.len() / 2 + tag;
-        self.nodes[i] = key;
+        let mut best = key;
+        self.nodes[i] = best;
         while i > 1 {
+            best = best.min(self.nodes[i ^ 1]);
             i /= 2;
-            self.nodes[i] = self.nodes[2 * i].min(self.nodes[2 * i + 1]);
+            self.nodes[i] = best;
         }
+        best
     }
 }
 
@@ -48,7 +50,9 @@ impl Tournament {
 pub fn wrong(mut lists: Vec<List>) -> bool {
     let mut tournament = Tournament::new(&lists);
     let mut open: Vec<Label> = Vec::with_capacity(MOST_NESTED);
-    while let Some(tag) = tournament.first() {
+    let mut least = tournament.least();
+    while least < PAST {
+        let tag = (least & 0xff) as usize;
         let (next, left) = lists[tag].split_first().expect("a list without labels has no key");
         let label = Label::read(next);
         while open.pop_if(|inner| inner.end < label.start).is_some() {}
@@ -59,7 +63,7 @@ pub fn wrong(mut lists: Vec<List>) -> bool {
         }
         open.push(label);
         lists[tag] = left;
-        tournament.put(tag, key(left, tag));
+        least = tournament.put(tag, key(left, tag));
     }
     false
 }

@@ -11,10 +11,10 @@ use Rattle.day.proofs.sweep.sweep.Statement.{statement}
 use Rattle.day.proofs.sweep.sweep.Tie as tie
 
 abbrev Inv-loop : tie.InvT-loop
-Inv-loop index m tree₀ places₀ starts₀ ends₀ s₀ tree places starts ends s = Round (s .going) index m tree places starts ends s
+Inv-loop index m tree₀ places₀ starts₀ ends₀ least s₀ tree places starts ends s = Round (s .going) index m tree places starts ends s
 
 abbrev μ-loop : tie.MeasureT-loop
-μ-loop index m tree₀ places₀ starts₀ ends₀ s₀ tree places starts ends s = weight index places s
+μ-loop index m tree₀ places₀ starts₀ ends₀ least s₀ tree places starts ends s = weight index places s
 
 -- The function's entry, from the loop's head.
 abbrev start : tie.At-loop Inv-loop μ-loop → tie.Start Inv-loop μ-loop
@@ -50,13 +50,16 @@ none-requires c κs = search needs
 none-requires-2 : tie.Need-none-requires-2 Inv-loop μ-loop
 none-requires-2 c κs = search needs
 
+array-read-least : tie.Need-array-read-least Inv-loop μ-loop
+array-read-least c = search needs
+
 closed-requires : tie.Need-closed-requires Inv-loop μ-loop
 closed-requires c κs = search needs
 
 loop-holds : tie.Need-loop-holds Inv-loop μ-loop
 loop-holds c =
     let p = c .before .before .before .before .before .before .pre in
-    round-begin _ _ _ _ _ _ (c .closed .result) (p .0) (p .1) (p .2) (p .3) (c .before .before .before .before .first-keys .ensures) (c .before .before .before .first-places .ensures) (c .before .before .none .ensures) (c .before .none2 .ensures) (c .closed .ensures .0) (c .closed .ensures .3)
+    round-begin _ _ _ _ _ _ (c .closed .result) (p .0) (p .1) (p .2) (p .3) (c .before .before .before .before .first-keys .ensures) (c .before .before .before .first-places .ensures) (c .before .before .none .ensures) (c .before .none2 .ensures) (c .closed .ensures .0) (c .closed .ensures .3) (c .closed .ensures .5)
 
 judge-requires : tie.Need-judge-requires Inv-loop μ-loop
 judge-requires c κs = standing (c .before .before) .1 .ready
@@ -108,6 +111,7 @@ sweep-spec =
     first-places-requires
     none-requires
     none-requires-2
+    array-read-least
     closed-requires
     loop-holds
     judge-requires

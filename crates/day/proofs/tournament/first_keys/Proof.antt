@@ -40,7 +40,7 @@ loop-again : tie.Need-loop-again Inv-loop μ-loop
 loop-again c =
     let l = c .before .before .before .before in
     let s = l .before .before .before in
-    filling-on _ _ _ _ _ (l .loop .inv) (omega (arith, s .pre .1, c .before .before .before .loop-test .taken)) (subst (λ (m : ℕ). Put m (l .loop .r) (c .before .before .key-of .result) (l .loop .tree) (c .put .last .0)) (s .pre .1) (c .put .ensures)) (c .before .before .key-of .ensures)
+    filling-on _ _ _ _ _ (l .loop .inv) (omega (arith, s .pre .1, c .before .before .before .loop-test .taken)) (subst (λ (m : ℕ). Put m (l .loop .r) (c .before .before .key-of .result) (l .loop .tree) (c .put .last .0)) (s .pre .1) (c .put .ensures .0)) (c .before .before .key-of .ensures)
 
 returns : tie.Need-returns Inv-loop μ-loop
 returns c = filling-end _ _ _ (c .before .loop .inv) (omega (arith, c .before .before .before .before .pre .1, c .loop-test .left))

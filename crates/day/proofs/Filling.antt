@@ -1,8 +1,8 @@
--- What the readers give, said of the lists of the index, and the tournament of the lists' first labels.
+-- What is read of a list, said of the lists of the index, the keys of the lists, and the tournament of their first labels.
 use Prim.Native.Nat.{ℕ, _+_, _*_, _≤_, _<_}
 use native.Mathlib.Nat.{eq-or-lt-of-le, ne-of-lt}
 use native.Mathlib.Omega.{arith}
-use mathlib.Core.Path.{_≡_, ap, _∙_}
+use mathlib.Core.Path.{_≡_, refl, ap, _∙_}
 use mathlib.Core.Logic.{_⊎_, inl, inr}
 use mathlib.Core.List.{List}
 use lib.ListN.{length, replicate, length-replicate, getD-replicate}
@@ -12,10 +12,6 @@ use Rattle.meaning.specs.Day.{offset, labelAt, listsOf}
 use Rattle.day.specs.Tournament.{nth, numbers, nodes, past, Tree, Put, Key, Keys}
 use Rattle.day.proofs.Playing.{lesser-left}
 
--- A start read from the body of row r is a start of list r.
-pub start-is : (b : List ℕ) (base r i v : ℕ) → base ≡ offset b r → v ≡ labelAt b base i .start → v ≡ listsOf b .label r i .start
-start-is b base r i v p e = e ∙ ap (λ (q : ℕ). labelAt b q i .start) p
-
 -- An end read from the body of row r is an end of list r.
 pub end-is : (b : List ℕ) (base r i v : ℕ) → base ≡ offset b r → v ≡ labelAt b base i .end → v ≡ listsOf b .label r i .end
 end-is b base r i v p e = e ∙ ap (λ (q : ℕ). labelAt b q i .end) p
@@ -23,6 +19,10 @@ end-is b base r i v p e = e ∙ ap (λ (q : ℕ). labelAt b q i .end) p
 -- The key of a list that has a label there.
 pub key-some : (t : Lists) (r p s : ℕ) → s ≡ t .label r p .start → p < t .count r → s < numbers → r < mostTags → Key t r p (mostTags * s + r)
 key-some t r p s e l f g = record { some = λ _. omega arith; small = λ _. omega arith; none = λ h. absurd (omega arith) }
+
+-- The key of a list that has none there.
+pub key-none : (t : Lists) (r p : ℕ) → t .count r ≤ p → Key t r p past
+key-none t r p l = record { some = λ h. absurd (omega arith); small = λ h. absurd (omega arith); none = λ _. refl }
 
 -- The loop of `first_keys`: the first r lists have their keys.
 pub record Filling (t : Lists) (r : ℕ) (xs : List ℕ) : Type 0 where

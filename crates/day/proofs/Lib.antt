@@ -5,6 +5,7 @@ pub mod RowLaws
 pub mod Placing
 pub mod FindLaws
 pub mod TableLaws
+pub mod Bodies
 pub mod Listing
 pub mod Playing
 pub mod Filling

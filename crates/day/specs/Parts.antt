@@ -1,7 +1,7 @@
 -- What one part of the check leaves for the next.
 use Prim.Native.Nat.{ℕ, _+_, _*_, _≤_, _<_}
 use mathlib.Core.List.{List}
-use lib.ListN.{length}
+use lib.ListN.{length, take, drop}
 use Rattle.meaning.specs.Limits.{mostTags, mostLabels}
 use Rattle.meaning.specs.Labels.{Lists}
 use Rattle.meaning.specs.Day.{tags, offset, count, rowAt, TooShort, OtherVersion, WrongContents, WrongLength, WrongLists, WrongNesting}
@@ -21,6 +21,10 @@ pub record Placed (b : List ℕ) : Type 0 where
   pub rows : rowAt (tags b) ≤ length b
   pub held : (r : ℕ) → r < tags b → offset b r + 8 * count b r ≤ length b
   pub small : (r : ℕ) → r < tags b → count b r ≤ mostLabels
+
+-- The body of row r by itself: a part of the index.
+abbrev pub rowBody : List ℕ → ℕ → List ℕ
+rowBody b r = take (8 * count b r) (drop (offset b r) b)
 
 -- List r is right by itself: its labels are ordered, and it ascends strictly by start.
 pub record ListRight (t : Lists) (r : ℕ) : Type 0 where

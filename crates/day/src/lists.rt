@@ -5,19 +5,22 @@ ghost use Rattle.meaning.specs.Day.{tags, listsOf, WrongLists};
 ghost use Rattle.day.specs.Parts.{Placed};
 ghost use Rattle.day.specs.Ordering.{ListWrong};
 use super::rows;
+use label::reader::Next;
+use label::reader::next_label;
 
 // Whether list r has a label with start ≥ end, or does not ascend strictly by start: the next start has to be `low` or more.
 fn list_wrong(index: &[u8], r: usize) -> bool
     requires { ⌜ Placed (now index) × (r < tags (now index)) ⌝ }
     ensures { λ w. ⌜ Decides (ListWrong (listsOf (now (index .entry))) r) w ⌝ }
 {
-    let base = rows::offset_of(index, r);
-    let n = rows::count_of(index, r);
+    let body = rows::body_of(index, r);
     let mut low: u32 = 0;
     let mut i = 0;
-    while i < n {
-        let start = label::start_at(index, base, i);
-        let end = label::end_at(index, base, i);
+    loop {
+        let next = next_label(body, i);
+        let Next::Label { start, end } = next else {
+            return false;
+        };
         if end <= start {
             return true;
         }
@@ -27,7 +30,6 @@ fn list_wrong(index: &[u8], r: usize) -> bool
         low = start + 1;
         i += 1;
     }
-    false
 }
 
 // Whether some list is wrong by itself.

@@ -1,9 +1,11 @@
-// The fields of the table of contents.
+// The fields of the table of contents, and the body of a row.
 ghost use mathlib.Core.Path.{_≡_};
 ghost use Prim.Native.Nat.{_+_, _*_, _<_, _≤_};
 ghost use lib.ListN.{length};
 ghost use Rattle.meaning.specs.Day.{tags, version, offset, count, rowAt};
+ghost use Rattle.day.specs.Parts.{Placed, rowBody};
 use meaning::Index;
+use meaning::Label;
 
 // T, the number of tags.
 pub fn tags_of(index: &[u8]) -> usize
@@ -40,4 +42,14 @@ pub fn count_of(index: &[u8], r: usize) -> usize
         index,
         Index::HEAD_BYTES + Index::ROW_BYTES * r + Index::COUNT_AT,
     ) as usize
+}
+
+// The body of row r, as a part of the index itself.
+pub fn body_of(index: &[u8], r: usize) -> &[u8]
+    requires { ⌜ Placed (now index) × (r < tags (now index)) ⌝ }
+    ensures { λ body. ⌜ now body ≡ rowBody (now (index .entry)) r ⌝ }
+{
+    let from = offset_of(index, r);
+    let to = from + Label::BYTES * count_of(index, r);
+    &index[from..to]
 }

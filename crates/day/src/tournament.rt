@@ -8,6 +8,8 @@ ghost use Rattle.meaning.specs.Day.{tags, listsOf};
 ghost use Rattle.day.specs.Parts.{Placed};
 ghost use Rattle.day.specs.Tournament.{nth, Lesser, Tree, Put, Key, Keys, nodes, past};
 use super::rows;
+use label::reader::Next;
+use label::reader::next_label;
 use meaning::Index;
 
 // How many places a tournament has.
@@ -62,13 +64,11 @@ pub fn key_of(index: &[u8], r: usize, p: usize) -> u64
     requires { ⌜ Placed (now index) × (r < tags (now index)) ⌝ }
     ensures { λ v. ⌜ Key (listsOf (now (index .entry))) r p v ⌝ }
 {
-    let n = rows::count_of(index, r);
-    if n <= p {
-        return PAST;
+    let next = next_label(rows::body_of(index, r), p);
+    match next {
+        Next::Label { start, end: _ } => LISTS * (start as u64) + (r as u64),
+        Next::End => PAST,
     }
-    let base = rows::offset_of(index, r);
-    let start = label::start_at(index, base, p);
-    LISTS * (start as u64) + (r as u64)
 }
 
 // The start that a key has.

@@ -14,3 +14,5 @@ pub mod Opening
 pub mod Passing
 pub mod Turning
 pub mod Rounds
+pub mod Looping
+pub mod Lending

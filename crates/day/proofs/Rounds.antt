@@ -6,7 +6,7 @@ use mathlib.Core.Path.{_≡_, refl, sym, ap, subst, _∙_}
 use mathlib.Core.Logic.{_⊎_, inl, inr}
 use mathlib.Core.Bool.{Bool, true, false, true≢false, false≢true}
 use mathlib.Core.List.{List}
-use lib.ListN.{length, set, replicate, length-set, length-replicate}
+use lib.ListN.{length, set, replicate, length-replicate}
 use lib.Seq.{getD-set-same, getD-set-other}
 use Rattle.meaning.specs.Limits.{mostTags, mostNested}
 use Rattle.meaning.specs.Labels.{Lists, Place, Tangled}
@@ -14,29 +14,26 @@ use Rattle.meaning.specs.Answers.{Decides}
 use Rattle.meaning.specs.Day.{tags, listsOf}
 use Rattle.day.specs.declared.open.Open.{Open}
 use Rattle.day.specs.declared.sweep.State.{State}
-use Rattle.day.specs.Parts.{Placed, Ordered}
-use Rattle.day.specs.Tournament.{nth, Keys}
-use Rattle.day.specs.Turns.{startOf, endOf, Swept, next, Moved, pushed, Same, Innermost, Ready, Judged, over, closing, opening}
+use Rattle.day.specs.Tournament.{nth}
+use Rattle.day.specs.Entries.{blank, entry}
+use Rattle.day.specs.Turns.{Swept, next, Moved, pushed, Same, Innermost, Ready, Fresh, Judged, over, closing, opening}
 use Rattle.day.proofs.Sweeping.{below-or, pushed-below, pushed-top, sweep-begin}
 
--- The open records' numbers stand in the table.
-pub record Held (t : Lists) (stack : ℕ → Place) (starts ends : List ℕ) (depth : ℕ) : Type 0 where
-  pub starts-long : length starts ≡ mostNested
-  pub ends-long : length ends ≡ mostNested
-  pub start-is : (k : ℕ) → k < depth → nth starts k ≡ startOf t (stack k)
-  pub end-is : (k : ℕ) → k < depth → nth ends k ≡ endOf t (stack k)
+-- The open records stand in the table.
+abbrev pub Held : Lists → (ℕ → Place) → List Open → ℕ → Type 0
+Held t stack table depth = (k : ℕ) → k < depth → Same t (stack k) (entry table k)
 
 -- The sweep between two turns.
-pub record Standing (b : List ℕ) (m : ℕ) (tree places starts ends : List ℕ) (s : State) (stack : ℕ → Place) : Type 0 where
+pub record Standing (b : List ℕ) (m : ℕ) (tree places : List ℕ) (table : List Open) (s : State) (stack : ℕ → Place) : Type 0 where
   pub ready : Ready b m tree places (s .depth) (s .key)
   pub swept : Swept (listsOf b) (nth places) stack (s .depth)
   pub inner : Innermost (listsOf b) stack s
-  pub held : Held (listsOf b) stack starts ends (s .depth)
+  pub held : Held (listsOf b) stack table (s .depth)
 
 -- The loop's invariant: the sweep stands between two turns, and when it is over its answer is right.
-abbrev pub Round : Bool → List ℕ → ℕ → List ℕ → List ℕ → List ℕ → List ℕ → State → Type 0
-Round true b m tree places starts ends s = (stack : ℕ → Place) × Standing b m tree places starts ends s stack
-Round false b m tree places starts ends s = Decides (Tangled (listsOf b)) (s .wrong)
+abbrev pub Round : Bool → List ℕ → ℕ → List ℕ → List ℕ → List Open → State → Type 0
+Round true b m tree places table s = (stack : ℕ → Place) × Standing b m tree places table s stack
+Round false b m tree places table s = Decides (Tangled (listsOf b)) (s .wrong)
 
 -- The state with the innermost record that was read.
 abbrev pub reread : State → Open → State
@@ -86,23 +83,31 @@ zeros-at (suc n) zero = refl
 zeros-at (suc n) (suc i) = zeros-at n i
 
 -- The first turn begins.
-pub round-begin : (b : List ℕ) (m : ℕ) (tree places starts ends : List ℕ) (s : State) → Placed b → Ordered (listsOf b) → m ≡ tags b → 0 < m → Keys (listsOf b) (λ r. 0) tree → places ≡ replicate mostTags 0
-    → length starts ≡ mostNested → length ends ≡ mostNested → s .going ≡ true → s .depth ≡ 0 → s .key ≡ nth tree 1 → Round (s .going) b m tree places starts ends s
-round-begin b m tree places starts ends s placed ordered m-is some keys e sl el g z least =
-    subst (λ (g : Bool). Round g b m tree places starts ends s) (sym g) (
+pub round-begin : (b : List ℕ) (m : ℕ) (tree places : List ℕ) (table : List Open) (s : State) → Fresh b m tree places s → Round (s .going) b m tree places table s
+round-begin b m tree places table s f =
+    subst (λ (g : Bool). Round g b m tree places table s) (sym (f .going)) (
       λ k. record { list = 0; at = 0 },
       record {
-        ready = record { placed = placed; ordered = ordered; m-is = m-is; some = some; keys = record { tree = keys .tree; key = λ r l. rw (zero-at r) (keys .key r l) }; long = ap length e ∙ length-replicate {A = ℕ} mostTags 0; shallow = omega arith; least = least };
-        swept = subst (λ (n : ℕ). Swept (listsOf b) (nth places) (λ k. record { list = 0; at = 0 }) n) (sym z) (sweep-begin (listsOf b) (nth places) _ zero-at);
-        inner = λ k f. absurd (omega arith);
-        held = record { starts-long = sl; ends-long = el; start-is = λ k l. absurd (omega arith); end-is = λ k l. absurd (omega arith) };
+        ready = record {
+          placed = f .placed;
+          ordered = f .ordered;
+          m-is = f .m-is;
+          some = f .some;
+          keys = record { tree = f .keys .tree; key = λ r l. rw (zero-at r) (f .keys .key r l) };
+          long = ap length (f .places-are) ∙ length-replicate {A = ℕ} mostTags 0;
+          shallow = omega (arith, f .none-open);
+          least = f .least;
+        };
+        swept = subst (λ (n : ℕ). Swept (listsOf b) (nth places) (λ k. record { list = 0; at = 0 }) n) (sym (f .none-open)) (sweep-begin (listsOf b) (nth places) _ zero-at);
+        inner = λ k e. absurd (omega (arith, f .none-open));
+        held = λ k l. absurd (omega (arith, f .none-open));
       },
     )
   where
     zero-at : (r : ℕ) → nth places r ≡ 0
-    zero-at r = ap (λ (ys : List ℕ). nth ys r) e ∙ zeros-at mostTags r
+    zero-at r = ap (λ (ys : List ℕ). nth ys r) (f .places-are) ∙ zeros-at mostTags r
 
-module _ (b : List ℕ) (m : ℕ) (tree places starts ends : List ℕ) (s : State) (stack : ℕ → Place) (w : Standing b m tree places starts ends s stack) (tree′ places′ : List ℕ) (s′ : State) (judged : Judged b m tree places stack s tree′ places′ s′) where
+module _ (b : List ℕ) (m : ℕ) (tree places : List ℕ) (table : List Open) (s : State) (stack : ℕ → Place) (w : Standing b m tree places table s stack) (tree′ places′ : List ℕ) (s′ : State) (judged : Judged b m tree places stack s tree′ places′ s′) where
   -- A turn makes the weight less.
   pub round-less : s .going ≡ true → weight b places′ s′ < weight b places s
   round-less g = go judged
@@ -116,13 +121,16 @@ module _ (b : List ℕ) (m : ℕ) (tree places starts ends : List ℕ) (s : Stat
       go (opening e p r o) = by (inr (omega (arith, o .one, left-falls (listsOf b .count) (nth places) (nth places′) (o .list) (o .moved) (o .holds .at-lt) (tags b) (o .holds .list-lt))))
 
   -- A record that is opened goes to the table.
-  pub round-push : s′ .put ≡ true → (starts′ ends′ : List ℕ) → starts′ ≡ set starts (s′ .at) (s′ .inner .start) → ends′ ≡ set ends (s′ .at) (s′ .inner .end) → Round (s′ .going) b m tree′ places′ starts′ ends′ s′
-  round-push put starts′ ends′ se ee = go judged
+  pub round-push : s′ .put ≡ true → length table ≡ mostNested → Round (s′ .going) b m tree′ places′ (set table (s′ .at) (s′ .inner)) s′
+  round-push put long = go judged
     where
-      go : Judged b m tree places stack s tree′ places′ s′ → Round (s′ .going) b m tree′ places′ starts′ ends′ s′
+      table′ : List Open
+      table′ = set table (s′ .at) (s′ .inner)
+
+      go : Judged b m tree places stack s tree′ places′ s′ → Round (s′ .going) b m tree′ places′ table′ s′
       go (over e p d) = absurd (true≢false (sym put ∙ p))
       go (closing e p f h c) = absurd (true≢false (sym put ∙ p))
-      go (opening e p r o) = subst (λ (g : Bool). Round g b m tree′ places′ starts′ ends′ s′) (sym e) (stack′, record { ready = r; swept = o .swept; inner = inner; held = held })
+      go (opening e p r o) = subst (λ (g : Bool). Round g b m tree′ places′ table′ s′) (sym e) (stack′, record { ready = r; swept = o .swept; inner = inner; held = held })
         where
           x : Place
           x = next (nth places) (o .list)
@@ -135,45 +143,41 @@ module _ (b : List ℕ) (m : ℕ) (tree places starts ends : List ℕ) (s : Stat
               let q : k ≡ s .depth = omega (arith, o .one) in
               subst (λ (y : Place). Same (listsOf b) y (s′ .inner)) (sym (ap stack′ q ∙ pushed-top stack (s .depth) x)) (o .same)
 
-          -- The numbers of one column of the table.
-          column : (f : Place → ℕ) (xs xs′ : List ℕ) (v : ℕ) → xs′ ≡ set xs (s′ .at) v → length xs ≡ mostNested → v ≡ f x → ((k : ℕ) → k < s .depth → nth xs k ≡ f (stack k)) → (k : ℕ) → k < s′ .depth → nth xs′ k ≡ f (stack′ k)
-          column f xs xs′ v xe long ve old k l = ap (λ (ys : List ℕ). nth ys k) (xe ∙ ap (λ (i : ℕ). set xs i v) (o .top)) ∙ here (below-or (subst (λ (n : ℕ). k < n) (o .one) l))
+          -- The record that is opened stands at its place, and the others stay.
+          held : Held (listsOf b) stack′ table′ (s′ .depth)
+          held k l = here (below-or (subst (λ (n : ℕ). k < n) (o .one) l))
             where
-              here : (k ≡ s .depth) ⊎ (k < s .depth) → nth (set xs (s .depth) v) k ≡ f (stack′ k)
-              here (inl q) = ap (nth (set xs (s .depth) v)) q ∙ getD-set-same xs (s .depth) v 0 (omega (arith, long, o .room)) ∙ ve ∙ ap f (sym (ap stack′ q ∙ pushed-top stack (s .depth) x))
-              here (inr h) = getD-set-other xs (s .depth) k v 0 (ne-of-lt h) ∙ old k h ∙ ap f (sym (pushed-below stack (s .depth) x k h))
-
-          held : Held (listsOf b) stack′ starts′ ends′ (s′ .depth)
-          held = record {
-            starts-long = ap length se ∙ length-set starts (s′ .at) (s′ .inner .start) ∙ w .held .starts-long;
-            ends-long = ap length ee ∙ length-set ends (s′ .at) (s′ .inner .end) ∙ w .held .ends-long;
-            start-is = column (startOf (listsOf b)) starts starts′ (s′ .inner .start) se (w .held .starts-long) (o .same .start) (w .held .start-is);
-            end-is = column (endOf (listsOf b)) ends ends′ (s′ .inner .end) ee (w .held .ends-long) (o .same .end) (w .held .end-is);
-          }
+              here : (k ≡ s .depth) ⊎ (k < s .depth) → Same (listsOf b) (stack′ k) (entry table′ k)
+              here (inl q) =
+                  let at-k : s′ .at ≡ k = o .top ∙ sym q in
+                  subst (λ (y : Open). Same (listsOf b) (stack′ k) y) (sym (ap (λ (i : ℕ). entry (set table i (s′ .inner)) k) at-k ∙ getD-set-same table k (s′ .inner) blank (omega (arith, long, o .room, q)))) (inner k (o .one ∙ ap suc (sym q)))
+              here (inr h) =
+                  subst (λ (y : Open). Same (listsOf b) (stack′ k) y) (sym (ap (λ (i : ℕ). entry (set table i (s′ .inner)) k) (o .top) ∙ getD-set-other table (s .depth) k (s′ .inner) blank (ne-of-lt h)))
+                  (subst (λ (y : Place). Same (listsOf b) y (entry table k)) (sym (pushed-below stack (s .depth) x k h)) (w .held k h))
 
   -- Where a record is closed, the one that is innermost then comes from the table.
-  pub round-pop : s′ .put ≡ false → (o : Open) → o .start ≡ nth starts (s′ .at) → o .end ≡ nth ends (s′ .at) → Round (s′ .going) b m tree′ places′ starts ends (reread s′ o)
-  round-pop put o se ee = go judged
+  pub round-pop : s′ .put ≡ false → Round (s′ .going) b m tree′ places′ table (reread s′ (entry table (s′ .at)))
+  round-pop put = go judged
     where
-      go : Judged b m tree places stack s tree′ places′ s′ → Round (s′ .going) b m tree′ places′ starts ends (reread s′ o)
-      go (over e p d) = subst (λ (g : Bool). Round g b m tree′ places′ starts ends (reread s′ o)) (sym e) d
+      s″ : State
+      s″ = reread s′ (entry table (s′ .at))
+
+      go : Judged b m tree places stack s tree′ places′ s′ → Round (s′ .going) b m tree′ places′ table s″
+      go (over e p d) = subst (λ (g : Bool). Round g b m tree′ places′ table s″) (sym e) d
       go (opening e p r c) = absurd (true≢false (sym p ∙ put))
       go (closing e p te pe c) =
-          subst (λ (g : Bool). Round g b m tree′ places′ starts ends (reread s′ o)) (sym e) (
+          subst (λ (g : Bool). Round g b m tree′ places′ table s″) (sym e) (
             stack,
             record {
               ready = subst (λ (xs : List ℕ). Ready b m xs places′ (s′ .depth) (s′ .key)) (sym te) (subst (λ (xs : List ℕ). Ready b m tree xs (s′ .depth) (s′ .key)) (sym pe) ready);
               swept = subst (λ (xs : List ℕ). Swept (listsOf b) (nth xs) stack (s′ .depth)) (sym pe) (c .swept);
               inner = inner;
-              held = record { starts-long = w .held .starts-long; ends-long = w .held .ends-long; start-is = λ k l. w .held .start-is k (omega (arith, c .one)); end-is = λ k l. w .held .end-is k (omega (arith, c .one)) };
+              held = λ k l. w .held k (omega (arith, c .one));
             },
           )
         where
           ready : Ready b m tree places (s′ .depth) (s′ .key)
           ready = record { placed = w .ready .placed; ordered = w .ready .ordered; m-is = w .ready .m-is; some = w .ready .some; keys = w .ready .keys; long = w .ready .long; shallow = omega (arith, w .ready .shallow, c .one); least = c .key ∙ w .ready .least }
 
-          inner : Innermost (listsOf b) stack (reread s′ o)
-          inner k f = record {
-            start = se ∙ ap (nth starts) (c .top k f) ∙ w .held .start-is k (omega (arith, c .one));
-            end = ee ∙ ap (nth ends) (c .top k f) ∙ w .held .end-is k (omega (arith, c .one));
-          }
+          inner : Innermost (listsOf b) stack s″
+          inner k f = subst (λ (i : ℕ). Same (listsOf b) (stack k) (entry table i)) (sym (c .top k f)) (w .held k (omega (arith, c .one)))

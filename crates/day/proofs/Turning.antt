@@ -113,15 +113,15 @@ module _ (t : Lists) (law : Ordered t) (places : List ℕ) (s : State) (stack : 
 
     -- A record that is not refused is opened.
     pub turn-open : (Refused (s .depth) (s .inner) start end → ⊥) → s .depth < mostNested → (places′ : List ℕ) → Moved (nth places) (nth places′) r
-        → (s′ : State) → s′ .depth ≡ suc (s .depth) → s′ .at ≡ s .depth → s′ .inner .start ≡ start → s′ .inner .end ≡ end → Opened t places places′ stack s s′
-    turn-open free room places′ moved s′ one top starts ends = record {
+        → (s′ : State) → s′ .depth ≡ suc (s .depth) → s′ .at ≡ s .depth → s′ .inner .start ≡ start → s′ .inner .end ≡ end → s′ .inner .list ≡ r → Opened t places places′ stack s s′
+    turn-open free room places′ moved s′ one top starts ends lists = record {
       list = r;
       holds = picked .least .waits .holds;
       moved = moved;
       one = one;
       room = room;
       top = top;
-      same = record { start = starts ∙ picked .start-is; end = ends ∙ end-is };
+      same = record { start = starts ∙ picked .start-is; end = ends ∙ end-is; list = lists };
       swept = subst (λ (n : ℕ). Swept t (nth places′) (pushed stack (s .depth) (next (nth places) r)) n) (sym one) (sweep-push t law (nth places) stack (s .depth) r swept (picked .least) top-in (nth places′) moved room);
     }
       where

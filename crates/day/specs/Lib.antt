@@ -3,4 +3,5 @@ pub mod Parts
 pub mod Rows
 pub mod Ordering
 pub mod Tournament
+pub mod Entries
 pub mod Turns

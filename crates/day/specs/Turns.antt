@@ -5,7 +5,7 @@ use mathlib.Core.Logic.{_⊎_, _≢_}
 use mathlib.Core.Bool.{Bool, true, false}
 use mathlib.Core.List.{List}
 use lib.Dec.{ltb}
-use lib.ListN.{length}
+use lib.ListN.{length, replicate}
 use Rattle.meaning.specs.Limits.{mostTags, mostNested}
 use Rattle.meaning.specs.Labels.{Lists, Place, labelOf, Holds, Inside, Nested, Tangled}
 use Rattle.meaning.specs.Answers.{Decides}
@@ -86,10 +86,11 @@ Closes depth inner start = (0 < depth) × (inner .end < start)
 abbrev pub Refused : ℕ → Open → ℕ → ℕ → Type 0
 Refused depth inner start end = (0 < depth) × ((inner .start ≡ start) ⊎ (inner .end ≤ end) ⊎ (depth ≡ mostNested))
 
--- `inner` has the numbers of the label at a place.
+-- `inner` has the numbers of the label at a place, and its list.
 pub record Same (t : Lists) (x : Place) (inner : Open) : Type 0 where
   pub start : inner .start ≡ startOf t x
   pub end : inner .end ≡ endOf t x
+  pub list : inner .list ≡ x .list
 
 -- The state's innermost record is the last of the open ones.
 abbrev pub Innermost : Lists → (ℕ → Place) → State → Type 0
@@ -109,6 +110,18 @@ pub record Ready (b : List ℕ) (m : ℕ) (tree places : List ℕ) (depth key : 
   pub long : length places ≡ mostTags
   pub shallow : depth ≤ mostNested
   pub least : key ≡ nth tree 1
+
+-- What the first turn may count on: no list has moved and no record is open.
+pub record Fresh (b : List ℕ) (m : ℕ) (tree places : List ℕ) (s : State) : Type 0 where
+  pub placed : Placed b
+  pub ordered : Ordered (listsOf b)
+  pub m-is : m ≡ tags b
+  pub some : 0 < m
+  pub keys : Keys (listsOf b) (λ r. 0) tree
+  pub places-are : places ≡ replicate mostTags 0
+  pub going : s .going ≡ true
+  pub none-open : s .depth ≡ 0
+  pub least : s .key ≡ nth tree 1
 
 -- A turn that closes the innermost record.
 pub record Closed (t : Lists) (places : List ℕ) (stack : ℕ → Place) (s s′ : State) : Type 0 where

@@ -7,7 +7,7 @@ ghost use Rattle.meaning.specs.Limits.{mostTags, mostNested};
 ghost use Rattle.meaning.specs.Answers.{Decides};
 ghost use Rattle.meaning.specs.Day.{tags, listsOf, WrongNesting};
 ghost use Rattle.day.specs.Parts.{Placed, Ordered};
-ghost use Rattle.day.specs.Turns.{Closes, Refused, Topmost, Ready, Turned};
+ghost use Rattle.day.specs.Turns.{Closes, Refused, Topmost, Ready, Turned, Fresh};
 use super::open;
 use super::open::Open;
 use super::rows;
@@ -41,7 +41,11 @@ fn over(wrong: bool) -> State
         put: false,
         at: 0,
         depth: 0,
-        inner: Open { start: 0, end: 0 },
+        inner: Open {
+            start: 0,
+            end: 0,
+            list: 0,
+        },
         key: 0,
     }
 }
@@ -68,15 +72,19 @@ fn closed(depth: usize, key: u64) -> State
         put: false,
         at: place_of(depth),
         depth: depth,
-        inner: Open { start: 0, end: 0 },
+        inner: Open {
+            start: 0,
+            end: 0,
+            list: 0,
+        },
         key: key,
     }
 }
 
 // The state when a record is opened inside `depth` others, and `key` is the least key then.
-fn opened(depth: usize, start: u32, end: u32, key: u64) -> State
+fn opened(depth: usize, start: u32, end: u32, list: u32, key: u64) -> State
     requires { ⌜ depth < mostNested ⌝ }
-    ensures { λ s. ⌜ (s .going ≡ true) × (s .put ≡ true) × (s .at ≡ depth) × (s .depth ≡ suc depth) × (s .inner .start ≡ start) × (s .inner .end ≡ end) × (s .key ≡ key) ⌝ }
+    ensures { λ s. ⌜ (s .going ≡ true) × (s .put ≡ true) × (s .at ≡ depth) × (s .depth ≡ suc depth) × (s .inner .start ≡ start) × (s .inner .end ≡ end) × (s .inner .list ≡ list) × (s .key ≡ key) ⌝ }
 {
     State {
         going: true,
@@ -84,7 +92,7 @@ fn opened(depth: usize, start: u32, end: u32, key: u64) -> State
         put: true,
         at: depth,
         depth: depth + 1,
-        inner: Open { start, end },
+        inner: Open { start, end, list },
         key: key,
     }
 }
@@ -153,7 +161,7 @@ fn judge(
     places[r] = p + 1;
     let after = tournament::key_of(index, r, p + 1);
     let least = tournament::put(tree, m, r, after);
-    opened(depth, start, end, least)
+    opened(depth, start, end, r as u32, least)
 }
 
 // The lists' cursors before the first turn.
@@ -163,26 +171,44 @@ fn first_places() -> [usize; Index::MOST_TAGS]
     [0; Index::MOST_TAGS]
 }
 
-// The sweep: it owns the table, and lends it to `push` and `pop`.
+// The turns: the table is here, and is lent to `push` and `pop`.
+fn turns(
+    index: &[u8],
+    m: usize,
+    tree: &mut [u64; tournament::NODES],
+    places: &mut [usize; Index::MOST_TAGS],
+    first: State,
+) -> bool
+    requires { ⌜ Fresh (now index) m (now tree) (now places) first ⌝ }
+    ensures { λ r. ⌜ Decides (WrongNesting (now (index .entry))) r ⌝ }
+{
+    let mut table = [Open {
+        start: 0,
+        end: 0,
+        list: 0,
+    }; Label::MOST_NESTED];
+    let mut s = first;
+    while s.going {
+        s = judge(index, m, tree, places, s);
+        if s.put {
+            open::push(&mut table, s.at, s.inner);
+        } else {
+            s.inner = open::pop(&table, s.at);
+        }
+    }
+    s.wrong
+}
+
+// The sweep: before the first turn no list has moved and no record is open.
 fn sweep(index: &[u8], m: usize) -> bool
     requires { ⌜ Placed (now index) × Ordered (listsOf (now index)) × (m ≡ tags (now index)) × (0 < m) ⌝ }
     ensures { λ r. ⌜ Decides (WrongNesting (now (index .entry))) r ⌝ }
 {
     let mut tree = tournament::first_keys(index, m);
     let mut places = first_places();
-    let mut starts = open::none();
-    let mut ends = open::none();
     let least = tree[tournament::ROOT];
-    let mut s = closed(0, least);
-    while s.going {
-        s = judge(index, m, &mut tree, &mut places, s);
-        if s.put {
-            open::push(&mut starts, &mut ends, s.at, s.inner);
-        } else {
-            s.inner = open::pop(&starts, &ends, s.at);
-        }
-    }
-    s.wrong
+    let first = closed(0, least);
+    turns(index, m, &mut tree, &mut places, first)
 }
 
 // Whether two labels share a number or cross, or 65 are nested.

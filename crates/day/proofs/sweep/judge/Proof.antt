@@ -153,6 +153,9 @@ put-requires c κs =
     let p = entry (start₃ a) .pre in
     (omega (arith, p .m-is, p .placed .few), omega (arith, p .m-is, listed a .list-lt), subst (λ (m : ℕ). Tree m (tree (entry (start₃ a)))) (sym (p .m-is)) (p .keys .tree))
 
+cast-opened : tie.Need-cast-opened
+cast-opened c = search needs
+
 opened-requires : tie.Need-opened-requires
 opened-requires c κs = room (c .before .before .before)
 
@@ -166,8 +169,8 @@ returns-4 c =
     let e = c .opened .ensures in
     let free = if-false (d .before .refused .ensures) (d .if3 .left) in (
       λ stack swept inner. opening (e .0) (e .1)
-          (ready-on (bytes k) (k .args .m) (tree k) (places k) (k .args .s .depth) (k .args .s .key) p (l .list-of .result) _ (listed l .list-lt) (c .before .before .before .key-of .ensures) (c .before .put .last .0) (c .before .put .ensures .0) (c .opened .result .depth) (c .opened .result .key) (omega (arith, e .3, room d)) (e .6 ∙ c .before .put .ensures .1))
-          (turn-open (listsOf (bytes k)) (p .ordered) (places k) (k .args .s) stack swept inner _ _ (listed l) _ (ends a) (if-false (l .before .before .closes .ensures) (l .before .if2 .left)) free (room d) (set (places k) (l .list-of .result) (nth (places k) (l .list-of .result) + 1)) (moved-set (places k) (l .list-of .result) (omega (arith, p .long, l .list-of .ensures .1))) (c .opened .result) (e .3) (e .2) (e .4) (e .5)),
+          (ready-on (bytes k) (k .args .m) (tree k) (places k) (k .args .s .depth) (k .args .s .key) p (l .list-of .result) _ (listed l .list-lt) (c .before .before .before .key-of .ensures) (c .before .put .last .0) (c .before .put .ensures .0) (c .opened .result .depth) (c .opened .result .key) (omega (arith, e .3, room d)) (e .7 ∙ c .before .put .ensures .1))
+          (turn-open (listsOf (bytes k)) (p .ordered) (places k) (k .args .s) stack swept inner _ _ (listed l) _ (ends a) (if-false (l .before .before .closes .ensures) (l .before .if2 .left)) free (room d) (set (places k) (l .list-of .result) (nth (places k) (l .list-of .result) + 1)) (moved-set (places k) (l .list-of .result) (omega (arith, p .long, l .list-of .ensures .1))) (c .opened .result) (e .3) (e .2) (e .4) (e .5) (e .6)),
       omega (arith, e .2, room d),
     )
 
@@ -196,5 +199,6 @@ judge-spec =
     add-key-of
     key-of-requires
     put-requires
+    cast-opened
     opened-requires
     returns-4)

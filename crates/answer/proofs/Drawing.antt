@@ -3,9 +3,10 @@ use Prim.Native.Nat.{ℕ, _+_, _*_, _≤_, _<_}
 use native.Mathlib.Omega.{arith}
 use borrow.Author.Tests.{eq-eqb, ne-eqb}
 use mathlib.Core.Path.{_≡_, refl, sym, ap, subst, _∙_}
-use mathlib.Core.Logic.{_⊎_, _≢_, ⊎-elim}
+use mathlib.Core.Logic.{_⊎_, inl, inr, _≢_, ⊎-elim}
 use mathlib.Core.List.{List}
 use lib.ListN.{length, getD, set, replicate, length-set}
+use lib.Seq.{ext-getD}
 use Rattle.meaning.specs.declared.Label.{Label}
 use Rattle.meaning.specs.declared.Body.{Body}
 use Rattle.meaning.specs.declared.Question.{Question}
@@ -17,11 +18,12 @@ use Rattle.meaning.specs.Picks.{Asked, asked, stepAt, at}
 use Rattle.meaning.specs.Refusals.{Lawful}
 use Rattle.meaning.proofs.Decide.{or-not, lt-decides}
 use Rattle.meaning.proofs.Laws.Day.{Fit, lawful-fit, list-of-row, list-small}
+use Rattle.meaning.proofs.Laws.Notation.{one-tree}
 use Rattle.meaning.proofs.Laws.Step.{hook-upward}
 use Rattle.meaning.proofs.Laws.Promise.{lawful-small}
 use Rattle.question.specs.Stored.{hookNumber, questionOf, blankStep}
 use Rattle.question.proofs.StoredSteps.{StoredAs, stored-step}
-use Rattle.answer.specs.Plan.{hookOf, planOf, Planned, Drawn, Asks, Draws}
+use Rattle.answer.specs.Plan.{hookOf, planOf, Planned, Column, Drawn, Asks, Draws}
 use Rattle.answer.proofs.Turns.{hook-from, hook-nothing}
 use Rattle.answer.proofs.Moves.{set-cases}
 use Rattle.answer.proofs.Paging.{zeros}
@@ -62,46 +64,61 @@ module _ (b : List ℕ) (p : Path) (k ret : ℕ) (hangs offsets counts : List �
   drawn-agrees = record {
     steps = sym (d .k-is);
     returned = sym (d .ret-is);
-    hook = λ s l. sym (ap hookOf (d .hangs-are s l) ∙ hook-again (stepAt p s .hook) (λ u e. omega (arith, hook-upward p s u l e)));
-    count = λ s l. sym (d .counts-are s l);
-    label = λ s i l. ap (λ (o : ℕ). labelAt b o i) (sym (d .offsets-are s l));
+    hook = λ s l. sym (ap hookOf (d .hangs-are .are s l) ∙ hook-again (stepAt p s .hook) (λ u e. omega (arith, hook-upward p s u l e)));
+    count = λ s l. sym (d .counts-are .are s l);
+    label = λ s i l. ap (λ (o : ℕ). labelAt b o i) (sym (d .offsets-are .are s l));
   }
 
   pub drawn-fit : Fit (planOf b k ret hangs offsets counts)
   unfolding asked planOf
-  drawn-fit = fit-agree (asked b p) (planOf b k ret hangs offsets counts) drawn-agrees (lawful-fit b p law) (d .blank)
+  drawn-fit = fit-agree (asked b p) (planOf b k ret hangs offsets counts) drawn-agrees (lawful-fit b p law) (d .counts-are .blank)
 
   -- Each list lies within a lawful index, of which the rows' lists are known to.
   module _ (held : (n : List ℕ) → listOf b n .offset + 8 * listOf b n .count ≤ length b) where
     pub drawn-planned : Planned b k ret hangs offsets counts
     drawn-planned = record {
       few = omega (arith, d .k-is);
-      held = λ s l. let m : s < steps p = omega (arith, d .k-is) in omega (arith, d .offsets-are s m, d .counts-are s m, held (stepAt p s .name));
-      small = λ s l. let m : s < steps p = omega (arith, d .k-is) in omega (arith, d .counts-are s m, list-small b (stepAt p s .name), lawful-small b law);
+      held = λ s l. let m : s < steps p = omega (arith, d .k-is) in omega (arith, d .offsets-are .are s m, d .counts-are .are s m, held (stepAt p s .name));
+      small = λ s l. let m : s < steps p = omega (arith, d .k-is) in omega (arith, d .counts-are .are s m, list-small b (stepAt p s .name), lawful-small b law);
       fit = drawn-fit;
     }
+
+-- An array of zeros holds nothing yet.
+column-begin : (f : ℕ → ℕ) (xs : List ℕ) → xs ≡ replicate 32 0 → Column 0 f xs
+column-begin f xs e = record { long = rw e refl; are = λ j l. absurd (omega arith); blank = λ j l. rw e (zeros 32 j) }
+
+-- One number more.
+column-on : (f : ℕ → ℕ) (s x : ℕ) (xs : List ℕ) → Column s f xs → s < 32 → x ≡ f s → Column (s + 1) f (set xs s x)
+column-on f s x xs w m e = record {
+  long = simp length-set (w .long);
+  are = set-cases (λ j y. j < s + 1 → y ≡ f j) xs s x (omega (arith, w .long)) (λ _. e) (λ j n k. w .are j (before j n k));
+  blank = set-cases (λ j y. s + 1 ≤ j → y ≡ 0) xs s x (omega (arith, w .long)) (λ k. absurd (omega arith)) (λ j n k. w .blank j (omega arith));
+}
+  where
+    before : (j : ℕ) → j ≢ s → j < s + 1 → j < s
+    before j n k = omega arith
+
+-- Such an array is one.
+column-one : (k : ℕ) (f : ℕ → ℕ) (xs ys : List ℕ) → Column k f xs → Column k f ys → xs ≡ ys
+column-one k f xs ys x y = ext-getD 0 xs ys (x .long ∙ sym (y .long)) (λ i l. go i (or-not (lt-decides i k)))
+  where
+    go : (i : ℕ) → (i < k) ⊎ (i < k → ⊥) → at xs i ≡ at ys i
+    go i (inl l) = x .are i l ∙ sym (y .are i l)
+    go i (inr n) = x .blank i (omega arith) ∙ sym (y .blank i (omega arith))
 
 -- The loop of `draw`: the first s steps are in the arrays, and blank entries stand behind them.
 pub record Drawing (b : List ℕ) (p : Path) (s : ℕ) (hangs offsets counts : List ℕ) : Type 0 where
   pub s-le : s ≤ steps p
-  pub hangs-long : length hangs ≡ 32
-  pub offsets-long : length offsets ≡ 32
-  pub counts-long : length counts ≡ 32
-  pub hangs-are : (j : ℕ) → j < s → at hangs j ≡ hookNumber (stepAt p j .hook)
-  pub offsets-are : (j : ℕ) → j < s → at offsets j ≡ listOf b (stepAt p j .name) .offset
-  pub counts-are : (j : ℕ) → j < s → at counts j ≡ listOf b (stepAt p j .name) .count
-  pub blank : (j : ℕ) → s ≤ j → at counts j ≡ 0
+  pub hangs-are : Column s (λ j. hookNumber (stepAt p j .hook)) hangs
+  pub offsets-are : Column s (λ j. listOf b (stepAt p j .name) .offset) offsets
+  pub counts-are : Column s (λ j. listOf b (stepAt p j .name) .count) counts
 
 pub draw-begin : (b : List ℕ) (p : Path) (hangs offsets counts : List ℕ) → hangs ≡ replicate 32 0 → offsets ≡ replicate 32 0 → counts ≡ replicate 32 0 → Drawing b p 0 hangs offsets counts
 draw-begin b p hangs offsets counts h o c = record {
   s-le = omega arith;
-  hangs-long = rw h refl;
-  offsets-long = rw o refl;
-  counts-long = rw c refl;
-  hangs-are = λ j l. absurd (omega arith);
-  offsets-are = λ j l. absurd (omega arith);
-  counts-are = λ j l. absurd (omega arith);
-  blank = λ j l. rw c (zeros 32 j);
+  hangs-are = column-begin _ hangs h;
+  offsets-are = column-begin _ offsets o;
+  counts-are = column-begin _ counts c;
 }
 
 -- One step more.
@@ -109,28 +126,28 @@ pub draw-on : (b : List ℕ) (p : Path) (s : ℕ) (hangs offsets counts : List �
     → hook ≡ hookNumber (stepAt p s .hook) → body ≡ listOf b (stepAt p s .name) → Drawing b p (s + 1) (set hangs s hook) (set offsets s (body .offset)) (set counts s (body .count))
 draw-on b p s hangs offsets counts hook body w l m h e = record {
   s-le = omega arith;
-  hangs-long = simp length-set (w .hangs-long);
-  offsets-long = simp length-set (w .offsets-long);
-  counts-long = simp length-set (w .counts-long);
-  hangs-are = set-cases (λ j x. j < s + 1 → x ≡ hookNumber (stepAt p j .hook)) hangs s hook (omega (arith, w .hangs-long)) (λ _. h) (λ j n k. w .hangs-are j (before j n k));
-  offsets-are = set-cases (λ j x. j < s + 1 → x ≡ listOf b (stepAt p j .name) .offset) offsets s (body .offset) (omega (arith, w .offsets-long)) (λ _. ap (λ (z : Body). z .offset) e) (λ j n k. w .offsets-are j (before j n k));
-  counts-are = set-cases (λ j x. j < s + 1 → x ≡ listOf b (stepAt p j .name) .count) counts s (body .count) (omega (arith, w .counts-long)) (λ _. ap (λ (z : Body). z .count) e) (λ j n k. w .counts-are j (before j n k));
-  blank = set-cases (λ j x. s + 1 ≤ j → x ≡ 0) counts s (body .count) (omega (arith, w .counts-long)) (λ k. absurd (omega arith)) (λ j n k. w .blank j (omega arith));
+  hangs-are = column-on _ s hook hangs (w .hangs-are) m h;
+  offsets-are = column-on _ s (body .offset) offsets (w .offsets-are) m (ap (λ (z : Body). z .offset) e);
+  counts-are = column-on _ s (body .count) counts (w .counts-are) m (ap (λ (z : Body). z .count) e);
 }
-  where
-    before : (j : ℕ) → j ≢ s → j < s + 1 → j < s
-    before j n k = omega arith
 
 -- All steps are in the arrays.
 pub draw-end : (b : List ℕ) (p : Path) (s k ret : ℕ) (hangs offsets counts : List ℕ) → Drawing b p s hangs offsets counts → k ≡ steps p → k ≤ s → ret ≡ returnedStep p → Drawn b p k ret hangs offsets counts
-draw-end b p s k ret hangs offsets counts w e l r = record {
-  k-is = e;
-  ret-is = r;
-  hangs-are = λ j m. w .hangs-are j (omega arith);
-  offsets-are = λ j m. w .offsets-are j (omega arith);
-  counts-are = λ j m. w .counts-are j (omega arith);
-  blank = λ j m. w .blank j (omega (arith, w .s-le));
-}
+draw-end b p s k ret hangs offsets counts w e l r =
+    let all : s ≡ steps p = omega (arith, w .s-le) in
+    record {
+      k-is = e;
+      ret-is = r;
+      hangs-are = subst (λ (n : ℕ). Column n (λ j. hookNumber (stepAt p j .hook)) hangs) all (w .hangs-are);
+      offsets-are = subst (λ (n : ℕ). Column n (λ j. listOf b (stepAt p j .name) .offset) offsets) all (w .offsets-are);
+      counts-are = subst (λ (n : ℕ). Column n (λ j. listOf b (stepAt p j .name) .count) counts) all (w .counts-are);
+    }
+
+-- What `draw` promises fixes all that it gives.
+pub draws-fixed : {b text : List ℕ} {k ret k′ ret′ : ℕ} {h o c h′ o′ c′ : List ℕ} → Draws b text k ret h o c → Draws b text k′ ret′ h′ o′ c′ → (h ≡ h′) × (o ≡ o′) × (c ≡ c′)
+draws-fixed {b} {k = k} {ret = ret} {h = h} {o = o} {c = c} x y =
+    let d : Drawn b (y .writes .tree) k ret h o c = subst (λ (t : Path). Drawn b t k ret h o c) (one-tree (x .writes) (y .writes)) (x .drawn) in
+    (column-one _ _ _ _ (d .hangs-are) (y .drawn .hangs-are), column-one _ _ _ _ (d .offsets-are) (y .drawn .offsets-are), column-one _ _ _ _ (d .counts-are) (y .drawn .counts-are))
 
 -- A step of a question that was read: where its name stands, that it is the tree's, and what it hangs from.
 pub asked-step : (text : List ℕ) (q : Question) (a : Asks text q) (s : ℕ) → s < steps (a .writes .tree) → StoredAs text (getD (q .steps) s blankStep) (stepAt (a .writes .tree) s)

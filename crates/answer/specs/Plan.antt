@@ -35,14 +35,19 @@ pub record Planned (b : List ℕ) (k ret : ℕ) (hangs offsets counts : List ℕ
   pub small : (s : ℕ) → s < k → at counts s ≤ mostLabels
   pub fit : Fit (planOf b k ret hangs offsets counts)
 
+-- An array of 32 numbers, of which the first k are those of f, and 0 stands behind them.
+pub record Column (k : ℕ) (f : ℕ → ℕ) (xs : List ℕ) : Type 0 where
+  pub long : length xs ≡ mostSteps
+  pub are : (s : ℕ) → s < k → at xs s ≡ f s
+  pub blank : (s : ℕ) → k ≤ s → at xs s ≡ 0
+
 -- The arrays are those of a tree over the index b: each of its steps by what it hangs from and by its name's list, and blank behind them.
 pub record Drawn (b : List ℕ) (p : Path) (k ret : ℕ) (hangs offsets counts : List ℕ) : Type 0 where
   pub k-is : k ≡ steps p
   pub ret-is : ret ≡ returnedStep p
-  pub hangs-are : (s : ℕ) → s < steps p → at hangs s ≡ hookNumber (stepAt p s .hook)
-  pub offsets-are : (s : ℕ) → s < steps p → at offsets s ≡ listOf b (stepAt p s .name) .offset
-  pub counts-are : (s : ℕ) → s < steps p → at counts s ≡ listOf b (stepAt p s .name) .count
-  pub blank : (s : ℕ) → steps p ≤ s → at counts s ≡ 0
+  pub hangs-are : Column (steps p) (λ s. hookNumber (stepAt p s .hook)) hangs
+  pub offsets-are : Column (steps p) (λ s. listOf b (stepAt p s .name) .offset) offsets
+  pub counts-are : Column (steps p) (λ s. listOf b (stepAt p s .name) .count) counts
 
 -- The question is that of the text's tree, which has at most 32 steps.
 pub record Asks (text : List ℕ) (q : Question) : Type 0 where

@@ -99,7 +99,7 @@ module _ (b text : List ℕ) (place : ℕ) (entry rows : List ℕ) (r : Page) (x
       let last = position j from (k - 1) begins l (omega (arith, k-is, steps-some (x .follows .tree))) in (
         omega (arith, last .0, k-is, steps-some (x .follows .tree)),
         λ s m.
-            let of-tree : at offsets s ≡ listOf b (name s) .offset = d .offsets-are s (omega (arith, d .k-is)) ∙ ap (λ (t : Path). listOf b (stepAt t s .name) .offset) (sym same) in
+            let of-tree : at offsets s ≡ listOf b (name s) .offset = d .offsets-are .are s (omega (arith, d .k-is)) ∙ ap (λ (t : Path). listOf b (stepAt t s .name) .offset) (sym same) in
             omega (arith, of-tree, position j from s begins l (omega (arith, k-is)) .1, list-within b (name s) (x .lawful)),
       )
 

@@ -58,12 +58,13 @@ pub record Heard (text : List ℕ) (q : Reading) : Type 0 where
 read-rising : (text : List ℕ) → Rising 0 (readTable text)
 read-rising text = (omega arith, (omega arith, (omega arith, tt)))
 
+-- A text that is read has at most 32 steps.
+pub few-steps : {text : List ℕ} → Clear (readTable text) → (f : Follows text) → steps (f .tree) ≤ mostSteps
+few-steps c f = ⊎-elim (λ l. l) (λ n. absurd (c .1 .1 .0 (f, inl (omega arith)))) (or-not (le-decides (steps (f .tree)) mostSteps))
+
 pub heard : (text : List ℕ) (q : Reading) → ReadAs text q → q .refusal ≡ 0 → Heard text q
 heard text q (reading.refused {n} g e) zero = absurd (omega (arith, above (readTable text) 0 (read-rising text) n (given-applies (readTable text) n g), ap (λ (x : Reading). x .refusal) e))
-heard text q (reading.read c f e) zero = record { clear = c; asks = record { writes = f; few = few; is = ap (λ (x : Reading). x .question) e } }
-  where
-    few : steps (f .tree) ≤ mostSteps
-    few = ⊎-elim (λ l. l) (λ n. absurd (c .1 .1 .0 (f, inl (omega arith)))) (or-not (le-decides (steps (f .tree)) mostSteps))
+heard text q (reading.read c f e) zero = record { clear = c; asks = record { writes = f; few = few-steps c f; is = ap (λ (x : Reading). x .question) e } }
 
 module _ (b text : List ℕ) (law : Lawful b) (c : Clear (readTable text)) (k ret : ℕ) (hangs offsets counts : List ℕ) (d : Draws b text k ret hangs offsets counts)
     (place : ℕ) (entry exit : List ℕ) (r : Page) where

@@ -17,7 +17,6 @@ use Rattle.meaning.specs.Picks.{Asked, Evidence, asked, at, stepAt}
 use Rattle.meaning.specs.Pages.{Rows, none, row, Paged, evidenceRoom}
 use Rattle.meaning.specs.Refusals.{Clear, Lawful, checkTable, questionTable, callTable}
 use Rattle.meaning.specs.Promises.{Shown, refused, page}
-use Rattle.meaning.proofs.Decide.{or-not, le-decides}
 use Rattle.meaning.proofs.Laws.Table.{above, given-applies, call-rising, clear-first, clear-not-given}
 use Rattle.meaning.proofs.Laws.Notation.{one-tree}
 use Rattle.meaning.proofs.Laws.Step.{steps-some}
@@ -27,6 +26,7 @@ use Rattle.question.specs.declared.Reading.{Reading}
 use Rattle.question.specs.Promise.{ReadAs, readTable}
 use Rattle.question.specs.Promise as reading
 use Rattle.answer.specs.Plan.{Asks, Drawn}
+use Rattle.answer.proofs.Responding.{few-steps}
 use Rattle.roadthrum.specs.Rows.{Given}
 
 -- What an accepted call has found.
@@ -45,7 +45,7 @@ accepted b text place entry rows r (page c f p) e =
       lawful = clear-first (checkTable b) (questionTable b text) c;
       read = (no₇, (no₈, (no₉, tt)));
       follows = f;
-      few = ⊎-elim (λ l. l) (λ n. absurd (no₉ (f, inl (omega arith)))) (or-not (le-decides (steps (f .tree)) mostSteps));
+      few = few-steps (no₇, (no₈, (no₉, tt))) f;
       paged = p;
     }
 

@@ -10,9 +10,11 @@ test:
 bench: library
 	@cargo run --quiet --release --offline --locked --manifest-path rust/Cargo.toml -p bench
 
-# The static library for C and Rust, and the program. Each is proved first, unless it was and nothing has changed.
+# The static library for C and Rust, and the program, with target/roadthrum to run it by. Each is proved first, unless it was and nothing has
+# changed. Both are made for x86-64; on another processor `machine/` has what makes the library for it and runs the program.
 library:
-	@mkdir -p target && rt staticlib roadthrum_c > target/library.out 2>&1 || { cat target/library.out; exit 1; }
+	@mkdir -p target && RATTLE_HOME=$$(bash machine/kit) rt staticlib roadthrum_c > target/library.out 2>&1 || { cat target/library.out; exit 1; }
 
 program:
 	@mkdir -p target && rt check roadthrum > target/program.out 2>&1 || { cat target/program.out; exit 1; }
+	@printf '#!/bin/sh\nexec "%s/machine/run" "%s/target/bin/roadthrum"\n' "$$PWD" "$$PWD" > target/roadthrum && chmod +x target/roadthrum

@@ -5,9 +5,9 @@ use evaluator::{printed, Asked, Way};
 use std::path::{Path, PathBuf};
 use std::process::Command;
 
-/// The program, which `rt check roadthrum` builds in the repository's folder.
+/// The program, as `make program` leaves it in the repository's folder.
 fn program() -> PathBuf {
-    let program = Path::new(env!("CARGO_MANIFEST_DIR")).join("../../target/bin/roadthrum");
+    let program = Path::new(env!("CARGO_MANIFEST_DIR")).join("../../target/roadthrum");
     assert!(program.exists(), "{} is missing: run `make program` first", program.display());
     program.canonicalize().expect("the program has a path")
 }

@@ -32,7 +32,7 @@ pub fn draw(index: &[u8], text: &[u8], question: Question) -> Plan
     let mut s = 0;
     while s < count {
         let step = question.steps[s];
-        let body = day::find(index, question::name_of(text, step));
+        let body = contents::find(index, question::name_of(text, step));
         hangs[s] = step.hangs as usize;
         offsets[s] = body.offset;
         counts[s] = body.count;

@@ -1,10 +1,9 @@
--- The body of a row by itself, and what a reader of it hands out, said of the lists of the index.
-use Prim.Native.Nat.{ℕ, _+_, _*_, _-_, _≤_, _<_}
+-- What a reader of a row's body hands out, said of the lists of the index.
+use Prim.Native.Nat.{ℕ, _*_, _≤_, _<_}
 use native.Mathlib.Omega.{arith}
 use mathlib.Core.Path.{_≡_, sym, ap, subst, _∙_}
 use mathlib.Core.List.{List}
-use lib.ListN.{length, take, drop, length-drop}
-use lib.Seq.{length-take-le}
+use lib.ListN.{length}
 use Rattle.meaning.specs.Day.{tags, offset, count, listsOf}
 use Rattle.meaning.specs.declared.Label.{Label as Meant}
 use Rattle.label.specs.declared.reader.Next.{Next}
@@ -12,17 +11,8 @@ use Rattle.label.specs.declared.reader.Next.the-variants.{Label, End}
 use Rattle.label.specs.Reading.{nextAt}
 use Rattle.label.proofs.PartLaws.{label-part}
 use Rattle.label.proofs.ReaderLaws.{Says, next-says}
-use Rattle.day.specs.Parts.{Placed, rowBody}
-
--- The bytes from where a row's body begins to where it ends are its body.
-pub row-part : (b : List ℕ) (r from n : ℕ) → from ≡ offset b r → n ≡ count b r → take (from + 8 * n - from) (drop from b) ≡ rowBody b r
-row-part b r from n e f =
-    let size : from + 8 * n - from ≡ 8 * count b r = omega arith in
-    ap (λ (k : ℕ). take k (drop from b)) size ∙ ap (λ (o : ℕ). take (8 * count b r) (drop o b)) e
-
--- It has 8 bytes for each label.
-row-length : (b : List ℕ) (r : ℕ) → offset b r + 8 * count b r ≤ length b → length (rowBody b r) ≡ 8 * count b r
-row-length b r l = length-take-le (8 * count b r) (drop (offset b r) b) (rw length-drop (omega arith))
+use Rattle.contents.specs.Parts.{Placed, rowBody}
+use Rattle.contents.proofs.BodyLaws.{body-length}
 
 -- What is known of list r and a place when this comes next there: it is the list's label, or the list has none there.
 abbrev pub Found : List ℕ → ℕ → ℕ → Next → Type 0
@@ -34,7 +24,7 @@ pub found : (b : List ℕ) (r i : ℕ) (x : Next) → Placed b → r < tags b �
 found b r i x p l e = go x (subst (Says (rowBody b r) i) (sym e) (next-says (rowBody b r) i))
   where
     long : length (rowBody b r) ≡ 8 * count b r
-    long = row-length b r (p .held r l)
+    long = body-length b r (p .held r l)
 
     go : (y : Next) → Says (rowBody b r) i y → Found b r i y
     go (Label start end) (below, is, ends) =

@@ -84,7 +84,7 @@ isS r w is = subst (Is S.the-row r) (LL.tells S.the-type S′.the-laws r (w ∷ 
 
 -- The state's machine value, with any value for the innermost record.
 abbrev pub mI : State → Val → Val
-mI s u = vstruct (vcons (vbool (s .going)) (vcons (vbool (s .wrong)) (vcons (vbool (s .put)) (vcons (vint w64 (s .at)) (vcons (vint w64 (s .depth)) (vcons u (vcons (vint w64 (s .key)) vnil)))))))
+mI s u = vstruct (vcons (vbool (s .going)) (vcons (vbool (s .wrong)) (vcons (vbool (s .put)) (vcons (vint w64 (s .at)) (vcons (vint w64 (s .depth)) (vcons u (vcons (vint w64 (s .least)) vnil)))))))
 
 -- A state with another innermost record stands at its machine value.
 pub isI : (s : State) (e : Open) → Is S.the-row s (S′.lowered s ∷ []) → Is T.the-row e (T′.lowered e ∷ []) → Is S.the-row (reread s e) (S′.lowered (reread s e) ∷ [])

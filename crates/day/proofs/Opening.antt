@@ -1,17 +1,19 @@
 -- The sweep over lists of labels: the next label lies inside every open record, and is opened, or is the 65th of a chain.
 use Prim.Native.Nat.{ℕ, zero, suc, _+_, _-_, _≤_, _<_}
 use native.Mathlib.Nat.{eq-or-lt-of-le, lt-of-not-le}
-use native.Mathlib.Decide.{decLe, ℕ-discrete}
+use native.Mathlib.Decide.{decLe}
 use native.Mathlib.Omega.{arith}
 use mathlib.Core.Path.{_≡_, refl, sym, ap, subst, _∙_}
 use mathlib.Core.Logic.{_⊎_, inl, inr, _≢_, ⊎-elim}
 use Rattle.meaning.specs.Limits.{mostNested}
 use Rattle.meaning.specs.Labels.{Lists, Place, Holds, Nested}
+use Rattle.order.specs.Walk.{startOf, Seen, Waits, Sorted, next, Comes, Moved}
+use Rattle.order.proofs.WalkLaws.{below-or, precedes-le, seen-old, seen-new, seen-next, waits-old}
 use Rattle.day.specs.Parts.{Ordered}
-use Rattle.day.specs.Turns.{startOf, Within, Before, Fine, Seen, Waits, Swept, next, Moved, pushed}
-use Rattle.day.proofs.Sweeping.{Least, below-or, same-place, fine-sym, pushed-below, pushed-top}
+use Rattle.day.specs.Turns.{Within, Before, Fine, Swept, pushed}
+use Rattle.day.proofs.Sweeping.{fine-sym, pushed-below, pushed-top}
 
-module _ (t : Lists) (law : Ordered t) (pos : ℕ → ℕ) (stack : ℕ → Place) (depth r : ℕ) (w : Swept t pos stack depth) (least : Least t pos r)
+module _ (t : Lists) (law : Ordered t) (pos : ℕ → ℕ) (stack : ℕ → Place) (depth r : ℕ) (w : Swept t pos stack depth) (sorted : Sorted t pos) (comes : Comes t pos r)
     (top : (k : ℕ) → depth ≡ suc k → Within t (next pos r) (stack k)) where
   -- The next label's place.
   abbrev x₀ : Place
@@ -39,7 +41,7 @@ module _ (t : Lists) (law : Ordered t) (pos : ℕ → ℕ) (stack : ℕ → Plac
       chain = pushed stack mostNested x₀
 
       holds : (i : ℕ) → i < suc mostNested → Holds t (chain i)
-      holds i l = ⊎-elim (λ e. subst (λ (x : Place). Holds t x) (sym (ap chain e ∙ pushed-top stack mostNested x₀)) (least .waits .holds)) (λ k. subst (λ (x : Place). Holds t x) (sym (pushed-below stack mostNested x₀ i k)) (w .held i (omega arith) .holds)) (below-or l)
+      holds i l = ⊎-elim (λ e. subst (λ (x : Place). Holds t x) (sym (ap chain e ∙ pushed-top stack mostNested x₀)) (comes .waits .holds)) (λ k. subst (λ (x : Place). Holds t x) (sym (pushed-below stack mostNested x₀ i k)) (w .held i (omega arith) .holds)) (below-or l)
 
       inside : (i : ℕ) → suc i < suc mostNested → Within t (chain (suc i)) (chain i)
       inside i l =
@@ -49,37 +51,9 @@ module _ (t : Lists) (law : Ordered t) (pos : ℕ → ℕ) (stack : ℕ → Plac
 
   -- And else it is put on top, and its list's cursor moves on.
   module _ (pos′ : ℕ → ℕ) (moved : Moved pos pos′ r) (room : depth < mostNested) where
-    -- What is seen now was seen before, or is the next label.
-    seen-old : (x : Place) → Seen t pos′ x → Seen t pos x ⊎ (x ≡ x₀)
-    seen-old x s = go (ℕ-discrete (x .list) r)
-      where
-        go : Dec (x .list ≡ r) → Seen t pos x ⊎ (x ≡ x₀)
-        go (no d) = inl (record { holds = s .holds; past = subst (λ (m : ℕ). x .at < m) (moved .other (x .list) d) (s .past) })
-        go (yes e) = ⊎-elim (λ f. inr (same-place x x₀ e f)) (λ f. inl (record { holds = s .holds; past = subst (λ (m : ℕ). x .at < pos m) (sym e) f })) (below-or (subst (λ (m : ℕ). x .at < m) (ap pos′ e ∙ moved .here) (s .past)))
-
-    -- No cursor goes back.
-    moved-le : (s : ℕ) → pos s ≤ pos′ s
-    moved-le s = go (ℕ-discrete s r)
-      where
-        go : Dec (s ≡ r) → pos s ≤ pos′ s
-        go (no d) = omega (arith, moved .other s d)
-        go (yes e) = omega (arith, ap pos e, ap pos′ e, moved .here)
-
-    -- What was seen stays seen.
-    seen-new : (x : Place) → Seen t pos x → Seen t pos′ x
-    seen-new x s = record { holds = s .holds; past = omega (arith, s .past, moved-le (x .list)) }
-
-    -- The next label is seen now.
-    seen-next : Seen t pos′ x₀
-    seen-next = record { holds = least .waits .holds; past = omega (arith, moved .here) }
-
-    -- What waits now waited before.
-    waits-old : (y : Place) → Waits t pos′ y → Waits t pos y
-    waits-old y v = record { holds = v .holds; ahead = omega (arith, v .ahead, moved-le (y .list)) }
-
     -- The next label is nested in what was seen, or apart from it.
     new-fine : (x : Place) → Seen t pos x → Fine t x x₀
-    new-fine x s = ⊎-elim (λ p. inr (inl (subst (λ (y : Place). Within t x₀ y) (p .2) (inside-all (p .0) (p .1))))) (λ b. inr (inr (inl b))) (w .closed x x₀ s (least .waits))
+    new-fine x s = ⊎-elim (λ p. inr (inl (subst (λ (y : Place). Within t x₀ y) (p .2) (inside-all (p .0) (p .1))))) (λ b. inr (inr (inl b))) (w .closed x x₀ s (comes .waits))
 
     -- A chain that the next label ends, whose other labels were seen before.
     module _ (c : ℕ → Place) (chain : Nested t (suc mostNested) c) (old : (i : ℕ) → i < mostNested → Seen t pos (c i)) (last : c mostNested ≡ x₀) where
@@ -97,7 +71,7 @@ module _ (t : Lists) (law : Ordered t) (pos : ℕ → ℕ) (stack : ℕ → Plac
 
       -- Every other label of the chain is open.
       open-at : (i : ℕ) → i < mostNested → (k : ℕ) × (k < depth) × (stack k ≡ c i)
-      open-at i l = ⊎-elim (λ p. p) (λ b. absurd (omega (arith, around-at i l .before, law r (least .waits .holds .list-lt) .ordered (pos r) (least .waits .holds .at-lt)))) (w .closed (c i) x₀ (old i l) (least .waits))
+      open-at i l = ⊎-elim (λ p. p) (λ b. absurd (omega (arith, around-at i l .before, law r (comes .waits .holds .list-lt) .ordered (pos r) (comes .waits .holds .at-lt)))) (w .closed (c i) x₀ (old i l) (comes .waits))
 
       -- Label i of the chain stands at place i of the open ones, or higher.
       deeper : (i : ℕ) (l : i < mostNested) → i ≤ open-at i l .0
@@ -121,24 +95,23 @@ module _ (t : Lists) (law : Ordered t) (pos : ℕ → ℕ) (stack : ℕ → Plac
 
     -- Nothing that is seen lies inside the next label.
     none-inside : (x y : Place) → Seen t pos′ y → Within t y x → x ≡ x₀ → ⊥
-    none-inside x y s i e = go (seen-old y s)
+    none-inside x y s i e = go (seen-old t pos pos′ r moved y s)
       where
         after : startOf t x₀ < startOf t y
         after = subst (λ (z : Place). startOf t z < startOf t y) e (i .after)
 
         go : Seen t pos y ⊎ (y ≡ x₀) → ⊥
-        go (inl o) = omega (arith, after, w .order y x₀ o (least .waits))
+        go (inl o) = omega (arith, after, precedes-le t y x₀ (sorted y x₀ o (comes .waits)))
         go (inr f) = omega (arith, after, ap (startOf t) f)
 
     -- The next label is opened.
     pub sweep-push : Swept t pos′ (pushed stack depth x₀) (suc depth)
     sweep-push = record {
-      order = λ x y s v. ⊎-elim (λ o. w .order x y o (waits-old y v)) (λ e. subst (λ (z : Place). startOf t z ≤ startOf t y) (sym e) (least .least y (waits-old y v))) (seen-old x s);
-      fine = λ x y s v d. fine x y d (seen-old x s) (seen-old y v);
+      fine = λ x y s v d. fine x y d (seen-old t pos pos′ r moved x s) (seen-old t pos pos′ r moved y v);
       shallow = shallow;
-      held = λ k l. ⊎-elim (λ e. subst (λ (z : Place). Seen t pos′ z) (sym (ap (pushed stack depth x₀) e ∙ pushed-top stack depth x₀)) seen-next) (λ m. subst (λ (z : Place). Seen t pos′ z) (sym (pushed-below stack depth x₀ k m)) (seen-new (stack k) (w .held k m))) (below-or l);
+      held = λ k l. ⊎-elim (λ e. subst (λ (z : Place). Seen t pos′ z) (sym (ap (pushed stack depth x₀) e ∙ pushed-top stack depth x₀)) (seen-next t pos pos′ r moved (comes .waits .holds))) (λ m. subst (λ (z : Place). Seen t pos′ z) (sym (pushed-below stack depth x₀ k m)) (seen-new t pos pos′ r moved (stack k) (w .held k m))) (below-or l);
       nest = λ j k l m. subst (λ (z : Place). Within t (pushed stack depth x₀ k) z) (sym (pushed-below stack depth x₀ j (omega arith))) (nest j k l (below-or m));
-      closed = λ x y s v. closed x y v (seen-old x s);
+      closed = λ x y s v. closed x y v (seen-old t pos pos′ r moved x s);
     }
       where
         fine : (x y : Place) → x ≢ y → Seen t pos x ⊎ (x ≡ x₀) → Seen t pos y ⊎ (y ≡ x₀) → Fine t x y
@@ -148,10 +121,10 @@ module _ (t : Lists) (law : Ordered t) (pos : ℕ → ℕ) (stack : ℕ → Plac
         fine x y d (inr e) (inr f) = absurd (d (e ∙ sym f))
 
         shallow : (c : ℕ → Place) → Nested t (suc mostNested) c → ((i : ℕ) → i < suc mostNested → Seen t pos′ (c i)) → ⊥
-        shallow c chain s = go (seen-old (c mostNested) (s mostNested (omega arith)))
+        shallow c chain s = go (seen-old t pos pos′ r moved (c mostNested) (s mostNested (omega arith)))
           where
             old : (i : ℕ) → i < mostNested → Seen t pos (c i)
-            old i l = ⊎-elim (λ o. o) (λ e. absurd (none-inside (c i) (c (suc i)) (s (suc i) (omega arith)) (chain .inside i (omega arith)) e)) (seen-old (c i) (s i (omega arith)))
+            old i l = ⊎-elim (λ o. o) (λ e. absurd (none-inside (c i) (c (suc i)) (s (suc i) (omega arith)) (chain .inside i (omega arith)) e)) (seen-old t pos pos′ r moved (c i) (s i (omega arith)))
 
             go : Seen t pos (c mostNested) ⊎ (c mostNested ≡ x₀) → ⊥
             go (inr e) = too-deep c chain old e
@@ -163,4 +136,4 @@ module _ (t : Lists) (law : Ordered t) (pos : ℕ → ℕ) (stack : ℕ → Plac
 
         closed : (x y : Place) → Waits t pos′ y → Seen t pos x ⊎ (x ≡ x₀) → ((k : ℕ) × (k < suc depth) × (pushed stack depth x₀ k ≡ x)) ⊎ Before t x y
         closed x y v (inr e) = inl (depth, omega arith, pushed-top stack depth x₀ ∙ sym e)
-        closed x y v (inl o) = ⊎-elim (λ p. inl (p .0, omega (arith, p .1), pushed-below stack depth x₀ (p .0) (p .1) ∙ p .2)) (λ b. inr b) (w .closed x y o (waits-old y v))
+        closed x y v (inl o) = ⊎-elim (λ p. inl (p .0, omega (arith, p .1), pushed-below stack depth x₀ (p .0) (p .1) ∙ p .2)) (λ b. inr b) (w .closed x y o (waits-old t pos pos′ r moved y v))

@@ -5,7 +5,9 @@ use mathlib.Core.Path.{_≡_}
 use mathlib.Core.Logic.{_⊎_, inl, inr, _≢_, ⊎-elim}
 use Rattle.meaning.specs.Labels.{Lists, Place, labelOf, Holds, Share, Cross, Tangled}
 use Rattle.day.specs.Parts.{Ordered}
-use Rattle.day.specs.Turns.{startOf, endOf, Fine, Seen, Swept}
+use Rattle.order.specs.Walk.{startOf, endOf, Done}
+use Rattle.order.proofs.WalkLaws.{done-seen}
+use Rattle.day.specs.Turns.{Fine, Swept}
 
 -- Two pairs of ordered numbers that are nested or apart have no number in common.
 none-shared : (a b c d : ℕ) → a < b → c < d → ((c < a) × (b < d)) ⊎ ((a < c) × (d < b)) ⊎ (b < c) ⊎ (d < a) → (a ≡ c) ⊎ (a ≡ d) ⊎ (b ≡ c) ⊎ (b ≡ d) → ⊥
@@ -39,17 +41,7 @@ module _ (t : Lists) (law : Ordered t) where
       cases (inr c) (inr (inr (inr i))) = omega (arith, c .first, y-up, x-up)
 
   -- Every list is passed: nothing is tangled.
-  pub sweep-end : (pos : ℕ → ℕ) (stack : ℕ → Place) (depth : ℕ) → Swept t pos stack depth → ((r : ℕ) → r < t .many → t .count r ≤ pos r) → Tangled t → ⊥
-  sweep-end pos stack depth w done = go
-    where
-      seen : (x : Place) → Holds t x → Seen t pos x
-      seen x l = record { holds = l; past = omega (arith, l .at-lt, done (x .list) (l .list-lt)) }
-
-      go : Tangled t → ⊥
-      go (inl c) = no-clash (c .one) (c .other) (c .holds-one) (c .holds-other) (c .wrong) (w .fine (c .one) (c .other) (seen _ (c .holds-one)) (seen _ (c .holds-other)) (c .two))
-      go (inr d) = w .shallow (d .0) (d .1) (λ i l. seen (d .0 i) (d .1 .holds i l))
-
--- Where there is no list nothing is tangled.
-pub none-tangled : (t : Lists) → t .many ≡ 0 → Tangled t → ⊥
-none-tangled t z (inl c) = omega (arith, c .holds-one .list-lt)
-none-tangled t z (inr d) = omega (arith, d .1 .holds 0 (omega arith) .list-lt)
+  pub sweep-end : (pos : ℕ → ℕ) (stack : ℕ → Place) (depth : ℕ) → Swept t pos stack depth → Done t pos → Tangled t → ⊥
+  sweep-end pos stack depth w done (inl c) =
+      no-clash (c .one) (c .other) (c .holds-one) (c .holds-other) (c .wrong) (w .fine (c .one) (c .other) (done-seen t pos done _ (c .holds-one)) (done-seen t pos done _ (c .holds-other)) (c .two))
+  sweep-end pos stack depth w done (inr d) = w .shallow (d .0) (d .1) (λ i l. done-seen t pos done (d .0 i) (d .1 .holds i l))

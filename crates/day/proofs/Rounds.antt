@@ -1,23 +1,26 @@
 -- The loop of `sweep`: what holds between turns of the table, the lists' cursors and the state, and what gets less.
-use Prim.Native.Nat.{ℕ, zero, suc, _+_, _*_, _-_, _≤_, _<_}
-use native.Mathlib.Nat.{eq-or-lt-of-le, ne-of-lt, le-of-suc-le-suc}
+use Prim.Native.Nat.{ℕ, suc, _+_, _*_, _<_}
+use native.Mathlib.Nat.{ne-of-lt}
 use native.Mathlib.Omega.{arith}
-use mathlib.Core.Path.{_≡_, refl, sym, ap, subst, _∙_}
+use mathlib.Core.Path.{_≡_, sym, ap, subst, _∙_}
 use mathlib.Core.Logic.{_⊎_, inl, inr}
 use mathlib.Core.Bool.{Bool, true, false, true≢false, false≢true}
 use mathlib.Core.List.{List}
-use lib.ListN.{length, set, replicate, length-replicate}
+use lib.ListN.{length, set}
 use lib.Seq.{getD-set-same, getD-set-other}
-use Rattle.meaning.specs.Limits.{mostTags, mostNested}
+use Rattle.meaning.specs.Limits.{mostNested}
 use Rattle.meaning.specs.Labels.{Lists, Place, Tangled}
 use Rattle.meaning.specs.Answers.{Decides}
 use Rattle.meaning.specs.Day.{tags, listsOf}
+use Rattle.order.specs.Walk.{next}
+use Rattle.order.specs.Standing.{cursor, Names}
+use Rattle.order.proofs.WalkLaws.{below-or}
+use Rattle.order.proofs.Left.{left, left-falls}
 use Rattle.day.specs.declared.open.Open.{Open}
 use Rattle.day.specs.declared.sweep.State.{State}
-use Rattle.day.specs.Tournament.{nth}
 use Rattle.day.specs.Entries.{blank, entry}
-use Rattle.day.specs.Turns.{Swept, next, Moved, pushed, Same, Innermost, Ready, Fresh, Judged, over, closing, opening}
-use Rattle.day.proofs.Sweeping.{below-or, pushed-below, pushed-top, sweep-begin}
+use Rattle.day.specs.Turns.{Swept, pushed, Same, Innermost, Ready, Fresh, Judged, over, closing, opening}
+use Rattle.day.proofs.Sweeping.{pushed-below, pushed-top, sweep-begin}
 
 -- The open records stand in the table.
 abbrev pub Held : Lists → (ℕ → Place) → List Open → ℕ → Type 0
@@ -25,8 +28,8 @@ Held t stack table depth = (k : ℕ) → k < depth → Same t (stack k) (entry t
 
 -- The sweep between two turns.
 pub record Standing (b : List ℕ) (m : ℕ) (tree places : List ℕ) (table : List Open) (s : State) (stack : ℕ → Place) : Type 0 where
-  pub ready : Ready b m tree places (s .depth) (s .key)
-  pub swept : Swept (listsOf b) (nth places) stack (s .depth)
+  pub ready : Ready b m tree places (s .depth) (s .least)
+  pub swept : Swept (listsOf b) (cursor b places) stack (s .depth)
   pub inner : Innermost (listsOf b) stack s
   pub held : Held (listsOf b) stack table (s .depth)
 
@@ -37,28 +40,7 @@ Round false b m tree places table s = Decides (Tangled (listsOf b)) (s .wrong)
 
 -- The state with the innermost record that was read.
 abbrev pub reread : State → Open → State
-reread s o = record { going = s .going; wrong = s .wrong; put = s .put; at = s .at; depth = s .depth; inner = o; key = s .key }
-
--- How many labels of the first k lists are left past the cursors.
-unfoldable pub left : (ℕ → ℕ) → (ℕ → ℕ) → ℕ → ℕ
-left count pos zero = 0
-left count pos (suc k) = left count pos k + (count k - pos k)
-
--- A list behind the first k leaves as many when its cursor moves.
-left-out : (count pos pos′ : ℕ → ℕ) (r : ℕ) → Moved pos pos′ r → (k : ℕ) → k ≤ r → left count pos′ k ≡ left count pos k
-unfolding left
-left-out count pos pos′ r moved zero l = refl
-left-out count pos pos′ r moved (suc k) l = simp (left-out count pos pos′ r moved k (omega arith), moved .other k (ne-of-lt l))
-
--- A cursor in range that moves on leaves less.
-pub left-falls : (count pos pos′ : ℕ → ℕ) (r : ℕ) → Moved pos pos′ r → pos r < count r → (k : ℕ) → r < k → left count pos′ k < left count pos k
-unfolding left
-left-falls count pos pos′ r moved room zero l = absurd (omega arith)
-left-falls count pos pos′ r moved room (suc k) l = go (eq-or-lt-of-le (le-of-suc-le-suc l)) (left-falls count pos pos′ r moved room k)
-  where
-    go : (r ≡ k) ⊎ (r < k) → (r < k → left count pos′ k < left count pos k) → left count pos′ k + (count k - pos′ k) < left count pos k + (count k - pos k)
-    go (inr h) ih = omega (arith, ih h, moved .other k (λ e. ne-of-lt h (sym e)))
-    go (inl e) ih = rw (← e) (omega (arith, left-out count pos pos′ r moved r (omega arith), moved .here))
+reread s o = record { going = s .going; wrong = s .wrong; put = s .put; at = s .at; depth = s .depth; inner = o; least = s .least }
 
 -- One more than a number while the sweep goes on, and else 0.
 abbrev pub weigh : Bool → ℕ → ℕ
@@ -67,7 +49,7 @@ weigh false n = 0
 
 -- The loop's measure: two for each label that is left and one for each open record, while the sweep goes on.
 abbrev pub weight : List ℕ → List ℕ → State → ℕ
-weight b places s = weigh (s .going) (2 * left (listsOf b .count) (nth places) (tags b) + s .depth)
+weight b places s = weigh (s .going) (2 * left (listsOf b .count) (cursor b places) (tags b) + s .depth)
 
 -- A turn ends the sweep or lowers the number.
 lighter : (g g′ : Bool) (n n′ : ℕ) → g ≡ true → (g′ ≡ false) ⊎ (n′ < n) → weigh g′ n′ < weigh g n
@@ -76,49 +58,31 @@ lighter true true n n′ e (inl f) = absurd (true≢false f)
 lighter true true n n′ e (inr l) = omega arith
 lighter false g′ n n′ e h = absurd (false≢true e)
 
--- Zeros are zero everywhere.
-zeros-at : (n i : ℕ) → nth (replicate n 0) i ≡ 0
-zeros-at zero i = refl
-zeros-at (suc n) zero = refl
-zeros-at (suc n) (suc i) = zeros-at n i
-
 -- The first turn begins.
 pub round-begin : (b : List ℕ) (m : ℕ) (tree places : List ℕ) (table : List Open) (s : State) → Fresh b m tree places s → Round (s .going) b m tree places table s
 round-begin b m tree places table s f =
     subst (λ (g : Bool). Round g b m tree places table s) (sym (f .going)) (
       λ k. record { list = 0; at = 0 },
       record {
-        ready = record {
-          placed = f .placed;
-          ordered = f .ordered;
-          m-is = f .m-is;
-          some = f .some;
-          keys = record { tree = f .keys .tree; key = λ r l. rw (zero-at r) (f .keys .key r l) };
-          long = ap length (f .places-are) ∙ length-replicate {A = ℕ} mostTags 0;
-          shallow = omega (arith, f .none-open);
-          least = f .least;
-        };
-        swept = subst (λ (n : ℕ). Swept (listsOf b) (nth places) (λ k. record { list = 0; at = 0 }) n) (sym (f .none-open)) (sweep-begin (listsOf b) (nth places) _ zero-at);
+        ready = record { walk = f .begun .standing; names = f .begun .names; ordered = f .ordered; shallow = omega (arith, f .none-open) };
+        swept = subst (λ (n : ℕ). Swept (listsOf b) (cursor b places) (λ k. record { list = 0; at = 0 }) n) (sym (f .none-open)) (sweep-begin (listsOf b) (cursor b places) _ (f .begun .nothing));
         inner = λ k e. absurd (omega (arith, f .none-open));
         held = λ k l. absurd (omega (arith, f .none-open));
       },
     )
-  where
-    zero-at : (r : ℕ) → nth places r ≡ 0
-    zero-at r = ap (λ (ys : List ℕ). nth ys r) (f .places-are) ∙ zeros-at mostTags r
 
 module _ (b : List ℕ) (m : ℕ) (tree places : List ℕ) (table : List Open) (s : State) (stack : ℕ → Place) (w : Standing b m tree places table s stack) (tree′ places′ : List ℕ) (s′ : State) (judged : Judged b m tree places stack s tree′ places′ s′) where
   -- A turn makes the weight less.
   pub round-less : s .going ≡ true → weight b places′ s′ < weight b places s
   round-less g = go judged
     where
-      by : (s′ .going ≡ false) ⊎ (2 * left (listsOf b .count) (nth places′) (tags b) + s′ .depth < 2 * left (listsOf b .count) (nth places) (tags b) + s .depth) → weight b places′ s′ < weight b places s
+      by : (s′ .going ≡ false) ⊎ (2 * left (listsOf b .count) (cursor b places′) (tags b) + s′ .depth < 2 * left (listsOf b .count) (cursor b places) (tags b) + s .depth) → weight b places′ s′ < weight b places s
       by = lighter (s .going) (s′ .going) _ _ g
 
       go : Judged b m tree places stack s tree′ places′ s′ → weight b places′ s′ < weight b places s
       go (over e p d) = by (inl e)
-      go (closing e p f h c) = by (inr (omega (arith, c .one, ap (λ (xs : List ℕ). left (listsOf b .count) (nth xs) (tags b)) h)))
-      go (opening e p r o) = by (inr (omega (arith, o .one, left-falls (listsOf b .count) (nth places) (nth places′) (o .list) (o .moved) (o .holds .at-lt) (tags b) (o .holds .list-lt))))
+      go (closing e p f h c) = by (inr (omega (arith, c .one, ap (λ (xs : List ℕ). left (listsOf b .count) (cursor b xs) (tags b)) h)))
+      go (opening e p r o) = by (inr (omega (arith, o .one, left-falls (listsOf b .count) (cursor b places) (cursor b places′) (o .list) (o .moved) (o .holds .at-lt) (tags b) (o .holds .list-lt))))
 
   -- A record that is opened goes to the table.
   pub round-push : s′ .put ≡ true → length table ≡ mostNested → Round (s′ .going) b m tree′ places′ (set table (s′ .at) (s′ .inner)) s′
@@ -133,7 +97,7 @@ module _ (b : List ℕ) (m : ℕ) (tree places : List ℕ) (table : List Open) (
       go (opening e p r o) = subst (λ (g : Bool). Round g b m tree′ places′ table′ s′) (sym e) (stack′, record { ready = r; swept = o .swept; inner = inner; held = held })
         where
           x : Place
-          x = next (nth places) (o .list)
+          x = next (cursor b places) (o .list)
 
           stack′ : ℕ → Place
           stack′ = pushed stack (s .depth) x
@@ -169,15 +133,15 @@ module _ (b : List ℕ) (m : ℕ) (tree places : List ℕ) (table : List Open) (
           subst (λ (g : Bool). Round g b m tree′ places′ table s″) (sym e) (
             stack,
             record {
-              ready = subst (λ (xs : List ℕ). Ready b m xs places′ (s′ .depth) (s′ .key)) (sym te) (subst (λ (xs : List ℕ). Ready b m tree xs (s′ .depth) (s′ .key)) (sym pe) ready);
-              swept = subst (λ (xs : List ℕ). Swept (listsOf b) (nth xs) stack (s′ .depth)) (sym pe) (c .swept);
+              ready = subst (λ (xs : List ℕ). Ready b m xs places′ (s′ .depth) (s′ .least)) (sym te) (subst (λ (xs : List ℕ). Ready b m tree xs (s′ .depth) (s′ .least)) (sym pe) ready);
+              swept = subst (λ (xs : List ℕ). Swept (listsOf b) (cursor b xs) stack (s′ .depth)) (sym pe) (c .swept);
               inner = inner;
               held = λ k l. w .held k (omega (arith, c .one));
             },
           )
         where
-          ready : Ready b m tree places (s′ .depth) (s′ .key)
-          ready = record { placed = w .ready .placed; ordered = w .ready .ordered; m-is = w .ready .m-is; some = w .ready .some; keys = w .ready .keys; long = w .ready .long; shallow = omega (arith, w .ready .shallow, c .one); least = c .key ∙ w .ready .least }
+          ready : Ready b m tree places (s′ .depth) (s′ .least)
+          ready = record { walk = w .ready .walk; names = subst (λ (n : ℕ). Names (listsOf b) (cursor b places) n) (sym (c .least)) (w .ready .names); ordered = w .ready .ordered; shallow = omega (arith, w .ready .shallow, c .one) }
 
           inner : Innermost (listsOf b) stack s″
           inner k f = subst (λ (i : ℕ). Same (listsOf b) (stack k) (entry table i)) (sym (c .top k f)) (w .held k (omega (arith, c .one)))

@@ -7,12 +7,9 @@ use mathlib.Core.Path.{_≡_, sym, ap, subst, _∙_}
 use mathlib.Core.Logic.{_⊎_, inl, inr, ⊎-elim}
 use borrow.Author.Tests.{lt-ltb, le-ltb}
 use Rattle.meaning.specs.Labels.{Lists, Place, labelOf, Share, Cross, Clash}
-use Rattle.day.specs.Parts.{Ordered}
-use Rattle.day.specs.Turns.{startOf, endOf, Before, Fine, Seen, Waits, Swept, next, pushed}
-
--- What is below one more is the last or below it.
-pub below-or : {k n : ℕ} → k < suc n → (k ≡ n) ⊎ (k < n)
-below-or l = eq-or-lt-of-le (omega arith)
+use Rattle.order.specs.Walk.{startOf, endOf, Waits, Sorted, next, Comes}
+use Rattle.order.proofs.WalkLaws.{below-or, precedes-le, none-seen}
+use Rattle.day.specs.Turns.{Before, Fine, Swept, pushed}
 
 -- Below the top a pushed record changes nothing.
 pub pushed-below : (stack : ℕ → Place) (depth : ℕ) (x : Place) (k : ℕ) → k < depth → pushed stack depth x k ≡ stack k
@@ -24,15 +21,6 @@ pub pushed-top : (stack : ℕ → Place) (depth : ℕ) (x : Place) → pushed st
 unfolding pushed
 pushed-top stack depth x = simp (le-ltb depth depth (omega arith))
 
--- The label next in list r starts no later than any that waits.
-pub record Least (t : Lists) (pos : ℕ → ℕ) (r : ℕ) : Type 0 where
-  pub waits : Waits t pos (next pos r)
-  pub least : (y : Place) → Waits t pos y → startOf t (next pos r) ≤ startOf t y
-
--- Places with the same list and position are the same.
-pub same-place : (x y : Place) → x .list ≡ y .list → x .at ≡ y .at → x ≡ y
-same-place x y e f = ap (λ (r : ℕ). record { list = r; at = x .at }) e ∙ ap (λ (i : ℕ). record { list = y .list; at = i }) f
-
 -- Nested or apart goes either way round.
 pub fine-sym : (t : Lists) (x y : Place) → Fine t x y → Fine t y x
 fine-sym t x y (inl a) = inr (inl a)
@@ -41,36 +29,19 @@ fine-sym t x y (inr (inr (inl a))) = inr (inr (inr a))
 fine-sym t x y (inr (inr (inr a))) = inr (inr (inl a))
 
 -- At the beginning nothing is seen.
-pub sweep-begin : (t : Lists) (pos : ℕ → ℕ) (stack : ℕ → Place) → ((r : ℕ) → pos r ≡ 0) → Swept t pos stack 0
+pub sweep-begin : (t : Lists) (pos : ℕ → ℕ) (stack : ℕ → Place) → ((r : ℕ) → r < t .many → pos r ≡ 0) → Swept t pos stack 0
 sweep-begin t pos stack z = record {
-  order = λ x y s w. absurd (none x s);
-  fine = λ x y s w d. absurd (none x s);
-  shallow = λ c ch s. none (c 0) (s 0 (omega arith));
+  fine = λ x y s w d. absurd (none-seen t pos z x s);
+  shallow = λ c ch s. none-seen t pos z (c 0) (s 0 (omega arith));
   held = λ k l. absurd (omega arith);
   nest = λ j k l m. absurd (omega arith);
-  closed = λ x y s w. absurd (none x s);
+  closed = λ x y s w. absurd (none-seen t pos z x s);
 }
-  where
-    none : (x : Place) → Seen t pos x → ⊥
-    none x s = omega (arith, s .past, z (x .list))
 
--- Of the labels next in their lists, the least is least of all that wait.
-pub least-of-all : (t : Lists) → Ordered t → (pos : ℕ → ℕ) (r : ℕ) → Waits t pos (next pos r)
-    → ((s : ℕ) → s < t .many → pos s < t .count s → startOf t (next pos r) ≤ startOf t (next pos s)) → Least t pos r
-least-of-all t law pos r w h = record { waits = w; least = go }
-  where
-    go : (y : Place) → Waits t pos y → startOf t (next pos r) ≤ startOf t y
-    go y v =
-        let l : y .list < t .many = v .holds .list-lt in
-        let m : y .at < t .count (y .list) = v .holds .at-lt in
-        let first = h (y .list) l (omega (arith, v .ahead)) in
-        ⊎-elim (λ e. omega (arith, ap (λ (i : ℕ). t .label (y .list) i .start) e)) (λ k. omega (arith, law (y .list) l .ascending (pos (y .list)) (y .at) k m)) (eq-or-lt-of-le (v .ahead))
-
-module _ (t : Lists) (pos : ℕ → ℕ) (stack : ℕ → Place) (depth r : ℕ) (w : Swept t pos stack depth) (least : Least t pos r) where
+module _ (t : Lists) (pos : ℕ → ℕ) (stack : ℕ → Place) (depth r : ℕ) (w : Swept t pos stack depth) (sorted : Sorted t pos) (comes : Comes t pos r) where
   -- An open record that ends before the next label starts is closed.
   pub sweep-pop : (k : ℕ) → depth ≡ suc k → Before t (stack k) (next pos r) → Swept t pos stack k
   sweep-pop k e past = record {
-    order = w .order;
     fine = w .fine;
     shallow = w .shallow;
     held = λ j l. w .held j (omega arith);
@@ -83,7 +54,7 @@ module _ (t : Lists) (pos : ℕ → ℕ) (stack : ℕ → Place) (depth r : ℕ)
       go x y v (inl (j, l, q)) = here (ℕ-discrete j k)
         where
           here : Dec (j ≡ k) → ((j : ℕ) × (j < k) × (stack j ≡ x)) ⊎ Before t x y
-          here (yes f) = inr (omega (arith, past, least .least y v, ap (endOf t) (sym q ∙ ap stack f)))
+          here (yes f) = inr (omega (arith, past, precedes-le t (next pos r) y (comes .first y v), ap (endOf t) (sym q ∙ ap stack f)))
           here (no d) = inl (j, ⊎-elim (λ f. absurd (d f)) (λ m. m) (below-or (subst (λ (m : ℕ). j < m) e l)), q)
 
   -- A label that starts within the last open record, and starts with it or does not end before it, shares a number with it or crosses it.
@@ -93,7 +64,7 @@ module _ (t : Lists) (pos : ℕ → ℕ) (stack : ℕ → Place) (depth r : ℕ)
     one = stack k;
     other = next pos r;
     holds-one = w .held k l .holds;
-    holds-other = least .waits .holds;
+    holds-other = comes .waits .holds;
     two = differ;
     wrong = go why;
   }
@@ -102,7 +73,7 @@ module _ (t : Lists) (pos : ℕ → ℕ) (stack : ℕ → Place) (depth r : ℕ)
       differ e = omega (arith, w .held k l .past, ap (λ (x : Place). x .at) e, ap (λ (x : Place). pos (x .list)) e)
 
       first : startOf t (stack k) ≤ startOf t (next pos r)
-      first = w .order (stack k) (next pos r) (w .held k l) (least .waits)
+      first = precedes-le t (stack k) (next pos r) (sorted (stack k) (next pos r) (w .held k l) (comes .waits))
 
       Wrong : Type 0
       Wrong = Share (labelOf t (stack k)) (labelOf t (next pos r)) ⊎ Cross (labelOf t (stack k)) (labelOf t (next pos r))

@@ -1,17 +1,9 @@
-// The day index: its table of contents, the check, and looking up a name.
-mod by_name;
-mod contents;
+// The check of a day index.
 mod lists;
-mod names;
 mod open;
-mod rows;
 mod sweep;
-mod tournament;
 
 ghost use Rattle.meaning.specs.Promises.{Checked};
-pub use by_name::find;
-pub use by_name::lookup;
-use contents::contents;
 use lists::lists_wrong;
 use sweep::nesting_wrong;
 
@@ -20,7 +12,7 @@ use sweep::nesting_wrong;
 pub fn check(index: &[u8]) -> u32
     ensures { λ r. ⌜ Checked (now (index .entry)) r ⌝ }
 {
-    let refusal = contents(index);
+    let refusal = contents::refusal(index);
     if refusal != 0 {
         return refusal;
     }

@@ -2,9 +2,9 @@
 ghost use Prim.Native.Nat.{_<_};
 ghost use Rattle.meaning.specs.Answers.{Decides};
 ghost use Rattle.meaning.specs.Day.{tags, listsOf, WrongLists};
-ghost use Rattle.day.specs.Parts.{Placed};
+ghost use Rattle.contents.specs.Parts.{Placed};
 ghost use Rattle.day.specs.Ordering.{ListWrong};
-use super::rows;
+use contents::rows;
 use label::reader::Next;
 use label::reader::next_label;
 

@@ -2,18 +2,18 @@
 ghost use mathlib.Core.Path.{_≡_};
 ghost use Prim.Native.Nat.{ℕ, suc, _<_, _≤_};
 ghost use mathlib.Core.Bool.{true, false};
-ghost use lib.ListN.{replicate};
-ghost use Rattle.meaning.specs.Limits.{mostTags, mostNested};
+ghost use Rattle.meaning.specs.Limits.{mostNested};
 ghost use Rattle.meaning.specs.Answers.{Decides};
-ghost use Rattle.meaning.specs.Day.{tags, listsOf, WrongNesting};
-ghost use Rattle.day.specs.Parts.{Placed, Ordered};
+ghost use Rattle.meaning.specs.Day.{listsOf, WrongNesting};
+ghost use Rattle.contents.specs.Parts.{Placed};
+ghost use Rattle.day.specs.Parts.{Ordered};
 ghost use Rattle.day.specs.Turns.{Closes, Refused, Topmost, Ready, Turned, Fresh};
 use super::open;
 use super::open::Open;
-use super::rows;
-use super::tournament;
+use contents::rows;
 use meaning::Index;
 use meaning::Label;
+use order::Coming;
 
 // What the sweep carries from turn to turn, beside the table.
 pub struct State {
@@ -27,8 +27,8 @@ pub struct State {
     // How many records are open, and the innermost of them.
     pub depth: usize,
     pub inner: Open,
-    // The least key of the tournament, kept here so that no turn waits for the root to be read back.
-    pub key: u64,
+    // The number of the walk over all labels, which names what comes next.
+    pub least: u64,
 }
 
 // The state when the sweep is over.
@@ -46,7 +46,7 @@ fn over(wrong: bool) -> State
             end: 0,
             list: 0,
         },
-        key: 0,
+        least: 0,
     }
 }
 
@@ -61,10 +61,10 @@ fn place_of(depth: usize) -> usize
     depth - 1
 }
 
-// The state when `depth` records are open, the innermost of them is to come from the table, and `key` is the least key.
-fn closed(depth: usize, key: u64) -> State
+// The state when `depth` records are open, the innermost of them is to come from the table, and `least` is the walk's number.
+fn closed(depth: usize, least: u64) -> State
     requires { ⌜ depth ≤ mostNested ⌝ }
-    ensures { λ s. ⌜ (s .going ≡ true) × (s .put ≡ false) × (s .at < mostNested) × (s .depth ≡ depth) × Topmost s × (s .key ≡ key) ⌝ }
+    ensures { λ s. ⌜ (s .going ≡ true) × (s .put ≡ false) × (s .at < mostNested) × (s .depth ≡ depth) × Topmost s × (s .least ≡ least) ⌝ }
 {
     State {
         going: true,
@@ -77,14 +77,14 @@ fn closed(depth: usize, key: u64) -> State
             end: 0,
             list: 0,
         },
-        key: key,
+        least: least,
     }
 }
 
-// The state when a record is opened inside `depth` others, and `key` is the least key then.
-fn opened(depth: usize, start: u32, end: u32, list: u32, key: u64) -> State
+// The state when a record is opened inside `depth` others, and `least` is the walk's number then.
+fn opened(depth: usize, start: u32, end: u32, list: u32, least: u64) -> State
     requires { ⌜ depth < mostNested ⌝ }
-    ensures { λ s. ⌜ (s .going ≡ true) × (s .put ≡ true) × (s .at ≡ depth) × (s .depth ≡ suc depth) × (s .inner .start ≡ start) × (s .inner .end ≡ end) × (s .inner .list ≡ list) × (s .key ≡ key) ⌝ }
+    ensures { λ s. ⌜ (s .going ≡ true) × (s .put ≡ true) × (s .at ≡ depth) × (s .depth ≡ suc depth) × (s .inner .start ≡ start) × (s .inner .end ≡ end) × (s .inner .list ≡ list) × (s .least ≡ least) ⌝ }
 {
     State {
         going: true,
@@ -93,7 +93,7 @@ fn opened(depth: usize, start: u32, end: u32, list: u32, key: u64) -> State
         at: depth,
         depth: depth + 1,
         inner: Open { start, end, list },
-        key: key,
+        least: least,
     }
 }
 
@@ -129,53 +129,45 @@ fn refused(depth: usize, inner: Open, start: u32, end: u32) -> bool
     false
 }
 
-// One turn, with all its decisions: it names the label that starts next, and closes the innermost open record, refuses the label or opens it.
+// One turn, with all its decisions: by the label that comes next it closes the innermost open record, refuses the label or opens it.
 fn judge(
     index: &[u8],
     m: usize,
-    tree: &mut [u64; tournament::NODES],
+    tree: &mut [u64; order::NODES],
     places: &mut [usize; Index::MOST_TAGS],
     s: State,
 ) -> State
-    requires { ⌜ Ready (now index) m (now tree) (now places) (s .depth) (s .key) ⌝ }
+    requires { ⌜ Ready (now index) m (now tree) (now places) (s .depth) (s .least) ⌝ }
     ensures turned { λ r. ⌜ Turned (now (index .entry)) m (now (tree .entry)) (now (places .entry)) s (now (tree .exit)) (now (places .exit)) r ⌝ }
     ensures fits { λ r. ⌜ r .at < mostNested ⌝ }
 {
-    let key = s.key;
-    if tournament::PAST <= key {
+    let coming = order::comes_next(index, places, s.least);
+    let Coming::Label {
+        list,
+        at: _,
+        start,
+        end,
+    } = coming
+    else {
         return over(false);
-    }
-    let start = tournament::start_of(key);
+    };
     let depth = s.depth;
     let inner = s.inner;
     if closes(depth, inner, start) {
-        return closed(depth - 1, key);
+        return closed(depth - 1, s.least);
     }
-    let r = tournament::list_of(key);
-    let p = places[r];
-    let base = rows::offset_of(index, r);
-    let end = label::end_at(index, base, p);
     if refused(depth, inner, start, end) {
         return over(true);
     }
-    places[r] = p + 1;
-    let after = tournament::key_of(index, r, p + 1);
-    let least = tournament::put(tree, m, r, after);
-    opened(depth, start, end, r as u32, least)
-}
-
-// The lists' cursors before the first turn.
-fn first_places() -> [usize; Index::MOST_TAGS]
-    ensures { λ r. ⌜ r ≡ replicate mostTags 0 ⌝ }
-{
-    [0; Index::MOST_TAGS]
+    let least = order::pass(index, m, tree, places, list);
+    opened(depth, start, end, list as u32, least)
 }
 
 // The turns: the table is here, and is lent to `push` and `pop`.
 fn turns(
     index: &[u8],
     m: usize,
-    tree: &mut [u64; tournament::NODES],
+    tree: &mut [u64; order::NODES],
     places: &mut [usize; Index::MOST_TAGS],
     first: State,
 ) -> bool
@@ -199,26 +191,14 @@ fn turns(
     s.wrong
 }
 
-// The sweep: before the first turn no list has moved and no record is open.
-fn sweep(index: &[u8], m: usize) -> bool
-    requires { ⌜ Placed (now index) × Ordered (listsOf (now index)) × (m ≡ tags (now index)) × (0 < m) ⌝ }
-    ensures { λ r. ⌜ Decides (WrongNesting (now (index .entry))) r ⌝ }
-{
-    let mut tree = tournament::first_keys(index, m);
-    let mut places = first_places();
-    let least = tree[tournament::ROOT];
-    let first = closed(0, least);
-    turns(index, m, &mut tree, &mut places, first)
-}
-
-// Whether two labels share a number or cross, or 65 are nested.
+// Whether two labels share a number or cross, or 65 are nested. Before the first turn nothing was handed out and no record is open.
 pub fn nesting_wrong(index: &[u8]) -> bool
     requires { ⌜ Placed (now index) × Ordered (listsOf (now index)) ⌝ }
     ensures { λ r. ⌜ Decides (WrongNesting (now (index .entry))) r ⌝ }
 {
     let m = rows::tags_of(index);
-    if m == 0 {
-        return false;
-    }
-    sweep(index, m)
+    let mut tree = order::blank_tree();
+    let mut places = order::blank_places();
+    let least = order::begin(index, m, &mut tree, &mut places);
+    turns(index, m, &mut tree, &mut places, closed(0, least))
 }

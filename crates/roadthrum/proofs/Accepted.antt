@@ -21,7 +21,7 @@ use Rattle.meaning.proofs.Laws.Table.{above, given-applies, call-rising, clear-
 use Rattle.meaning.proofs.Laws.Notation.{one-tree}
 use Rattle.meaning.proofs.Laws.Step.{steps-some}
 use Rattle.meaning.proofs.Laws.Page.{page-onward}
-use Rattle.day.proofs.FindLaws.{list-within}
+use Rattle.contents.proofs.FindLaws.{list-within}
 use Rattle.question.specs.declared.Reading.{Reading}
 use Rattle.question.specs.Promise.{ReadAs, readTable}
 use Rattle.question.specs.Promise as reading

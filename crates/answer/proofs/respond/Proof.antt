@@ -5,7 +5,7 @@ use mathlib.Core.List.{List}
 use Rattle.meaning.specs.Refusals.{Lawful}
 use Rattle.meaning.proofs.Laws.Table.{checked-lawful}
 use Rattle.meaning.proofs.Laws.Step.{steps-some}
-use Rattle.day.proofs.FindLaws.{list-within}
+use Rattle.contents.proofs.FindLaws.{list-within}
 use Rattle.answer.specs.Plan.{Planned}
 use Rattle.answer.proofs.Turns.{ret-of}
 use Rattle.answer.proofs.Drawing.{drawn-planned}

@@ -7,10 +7,11 @@ use borrow.Author.Needs.{needs}
 use Rattle.meaning.specs.Day.{WrongLists, WrongNesting}
 use Rattle.meaning.specs.Refusals.{Clear}
 use Rattle.meaning.proofs.Decide.{if-true, if-false}
-use Rattle.day.specs.Parts.{contentsTable}
-use Rattle.day.proofs.Placing.{placed-of}
+use Rattle.contents.specs.Parts.{contentsTable}
+use Rattle.contents.proofs.Placing.{placed-of}
+use Rattle.contents.proofs.TableLaws.{contents-clear}
 use Rattle.day.proofs.Listing.{ordered-of}
-use Rattle.day.proofs.TableLaws.{contents-clear, contents-refuses, lists-refuse, none-refuses}
+use Rattle.day.proofs.CheckLaws.{contents-refuses, lists-refuse, none-refuses}
 use Rattle.day.proofs.check.Statement.{statement}
 use Rattle.day.proofs.check.Tie as tie
 
@@ -19,17 +20,17 @@ abbrev index : tie.Else1 → List ℕ
 index e = e .before .before .before .args .index .now
 
 right : (e : tie.Else1) → Clear (contentsTable (index e))
-right e = contents-clear (index e) _ (e .if1 .left) (e .before .contents .ensures)
+right e = contents-clear (index e) _ (e .if1 .left) (e .before .refusal .ensures)
 
 -- Each list has been found right by itself.
 sorted : (e : tie.Else2) → WrongLists (index (e .before .before)) → ⊥
 sorted e = if-false (e .before .lists-wrong .ensures) (e .if2 .left)
 
-contents-requires : tie.Need-contents-requires
-contents-requires c κs = search needs
+refusal-requires : tie.Need-refusal-requires
+refusal-requires c κs = search needs
 
 returns : tie.Need-returns
-returns c = contents-refuses (c .before .before .before .args .index .now) _ (c .if1 .taken) (c .before .contents .ensures)
+returns c = contents-refuses (c .before .before .before .args .index .now) _ (c .if1 .taken) (c .before .refusal .ensures)
 
 lists-wrong-requires : tie.Need-lists-wrong-requires
 lists-wrong-requires c κs = placed-of (index c) (right c)
@@ -53,4 +54,4 @@ returns-4 c =
     none-refuses (index e) (right e) (sorted d, (if-false (c .before .nesting-wrong .ensures) (c .if3 .left), tt))
 
 pub check-spec : {M : Type 1} → statement M
-check-spec = tie.close (tie.spec contents-requires returns lists-wrong-requires returns-2 nesting-wrong-requires returns-3 returns-4)
+check-spec = tie.close (tie.spec refusal-requires returns lists-wrong-requires returns-2 nesting-wrong-requires returns-3 returns-4)

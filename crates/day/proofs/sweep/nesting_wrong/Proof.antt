@@ -1,22 +1,61 @@
--- `sweep::nesting_wrong` meets its contract: without a list nothing is tangled, and else the sweep answers.
-use mathlib.Core.Path.{sym, _∙_}
+-- `sweep::nesting_wrong` meets its contract: a walk over all labels begins, and the turns answer.
+use Prim.Native.Nat.{ℕ}
+use mathlib.Core.Path.{sym, ap, subst, _∙_}
 use borrow.Author.Needs.{needs}
-use Rattle.meaning.specs.Answers.{fails}
-use Rattle.day.proofs.Passing.{none-tangled}
+use lib.ListN.{length, length-replicate}
+use Rattle.meaning.specs.Limits.{mostTags}
+use Rattle.order.specs.Tournament.{nodes}
+use Rattle.order.specs.Standing.{Begun}
 use Rattle.day.proofs.sweep.nesting_wrong.Statement.{statement}
 use Rattle.day.proofs.sweep.nesting_wrong.Tie as tie
 
 tags-of-requires : tie.Need-tags-of-requires
 tags-of-requires c κs = search needs
 
+blank-tree-requires : tie.Need-blank-tree-requires
+blank-tree-requires c κs = search needs
+
+blank-places-requires : tie.Need-blank-places-requires
+blank-places-requires c κs = search needs
+
+begin-requires : tie.Need-begin-requires
+begin-requires c κs =
+    let t = c .before .before .before .before in
+    let s = t .before .before in
+    record {
+      placed = s .pre .0;
+      ascend = λ r i j l. s .pre .1 r l .ascending i j;
+      m-is = t .tags-of .ensures .0;
+      tree-long = ap length (c .before .before .before .blank-tree .ensures) ∙ length-replicate {A = ℕ} nodes 0;
+      places-long = ap length (c .before .before .blank-places .ensures) ∙ length-replicate {A = ℕ} mostTags 0;
+    }
+
+closed-requires : tie.Need-closed-requires
+closed-requires c κs = search needs
+
+turns-requires : tie.Need-turns-requires
+turns-requires c κs =
+    let g = c .before .before .before in
+    let t = g .before .before .before .before .before in
+    let s = t .before .before in
+    record {
+      begun = subst (λ (n : ℕ). Begun (s .args .index .now) (t .tags-of .result) (g .begin .last .1 .1 .0) (g .begin .last .1 .1 .1 .0) n) (sym (c .closed .ensures .5)) (g .begin .ensures);
+      ordered = s .pre .1;
+      going = c .closed .ensures .0;
+      none-open = c .closed .ensures .3;
+    }
+
 returns : tie.Need-returns
-returns c = fails (none-tangled _ (sym (c .before .tags-of .ensures .0) ∙ c .if1 .taken))
-
-sweep-requires : tie.Need-sweep-requires
-sweep-requires c κs = search needs
-
-returns-2 : tie.Need-returns-2
-returns-2 c = search needs
+returns c = search needs
 
 pub nesting-wrong-spec : {M : Type 1} → statement M
-nesting-wrong-spec = tie.close (tie.spec tags-of-requires returns sweep-requires returns-2)
+nesting-wrong-spec =
+    tie.close
+    (tie.spec
+    tags-of-requires
+    blank-tree-requires
+    blank-places-requires
+    begin-requires
+    closed-requires
+    turns-requires
+    returns)

@@ -1,0 +1,35 @@
+-- What the table of contents leaves to those that stand on it.
+use Prim.Native.Nat.{ℕ, _+_, _*_, _≤_, _<_}
+use mathlib.Core.List.{List}
+use lib.ListN.{length, take, drop}
+use Rattle.meaning.specs.declared.Body.{Body}
+use Rattle.meaning.specs.Limits.{mostTags, mostLabels}
+use Rattle.meaning.specs.Day.{tags, offset, count, rowAt, TooShort, OtherVersion, WrongContents, WrongLength}
+use Rattle.meaning.specs.Refusals.{Table, end, row}
+
+-- Rows 1 to 4 of the refusal table, which are about the table of contents.
+abbrev pub contentsTable : List ℕ → Table
+contentsTable b = row 1 (TooShort b) (row 2 (OtherVersion b) (row 3 (WrongContents b) (row 4 (WrongLength b) end)))
+
+-- What refusals 1 to 4 leave: every row and every list lies within the index.
+pub record Placed (b : List ℕ) : Type 0 where
+  pub few : tags b ≤ mostTags
+  pub rows : rowAt (tags b) ≤ length b
+  pub held : (r : ℕ) → r < tags b → offset b r + 8 * count b r ≤ length b
+  pub small : (r : ℕ) → r < tags b → count b r ≤ mostLabels
+
+-- The list of row r.
+abbrev pub rowList : List ℕ → ℕ → Body
+rowList b r = record { offset = offset b r; count = count b r }
+
+-- A list's body lies within the index.
+abbrev pub InIndex : List ℕ → Body → Type 0
+InIndex b l = l .offset + 8 * l .count ≤ length b
+
+-- The bytes of a list's body: a part of the index.
+abbrev pub bytesOf : List ℕ → Body → List ℕ
+bytesOf b l = take (8 * l .count) (drop (l .offset) b)
+
+-- The body of row r by itself.
+abbrev pub rowBody : List ℕ → ℕ → List ℕ
+rowBody b r = bytesOf b (rowList b r)

@@ -1,0 +1,9 @@
+// The table of contents of a day index: its fields, its names, refusals 1 to 4, and looking up a name.
+mod by_name;
+mod names;
+pub mod rows;
+mod table;
+
+pub use by_name::find;
+pub use by_name::lookup;
+pub use table::refusal;

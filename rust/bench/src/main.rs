@@ -2,9 +2,13 @@
 //!
 //! Called without arguments it measures all. With arguments it is the child process that measures libxml2 on one day and one question.
 
+#![deny(unsafe_code, unsafe_op_in_unsafe_fn)]
+#![deny(clippy::undocumented_unsafe_blocks)]
+
 mod compared;
 mod growth;
 mod header;
+#[allow(unsafe_code)]
 mod libxml2;
 mod lift;
 mod measure;

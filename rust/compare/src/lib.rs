@@ -1,5 +1,7 @@
 //! The library beside the evaluators, on cases that follow from a seed.
 
+#![forbid(unsafe_code)]
+
 mod cases;
 mod comparing;
 mod damaged_index;

@@ -16,10 +16,9 @@ pub struct Library {
 
 /// The proved library as C calls it, so that every number is seen, those of a refusal, too.
 pub const PROVED: Library = Library {
-    // SAFETY: the pointer and the length are those of one slice, which is only read.
-    check: |index| unsafe { raw::roadthrum_check(index.as_ptr(), index.len()) },
-    answer: |index, question, place, buffer| numbered(raw::call(raw::roadthrum_answer, index, question, place, buffer)),
-    evidence: |index, question, place, buffer| numbered(raw::call(raw::roadthrum_evidence, index, question, place, buffer)),
+    check: raw::check,
+    answer: |index, question, place, buffer| numbered(raw::answer(index, question, place, buffer)),
+    evidence: |index, question, place, buffer| numbered(raw::evidence(index, question, place, buffer)),
 };
 
 /// The proved library as Rust calls it.

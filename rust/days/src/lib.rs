@@ -2,6 +2,8 @@
 //!
 //! The same seed gives the same day on every machine, so that a case can be named by its seed.
 
+#![forbid(unsafe_code)]
+
 #[cfg(test)]
 mod deepest;
 mod index;

@@ -3,6 +3,8 @@
 //! Nothing here is quick or shares anything with the library that it judges. There are two evaluators: the first tries all picks, the
 //! second works with sets and so can take larger days and longer questions.
 
+#![forbid(unsafe_code)]
+
 mod index;
 mod name;
 mod pages;

@@ -22,9 +22,7 @@ pub struct Page {
 /// assert_eq!(check(b"\x00\x00\x02\x00"), Err(Refusal::OtherVersion));
 /// ```
 pub fn check(index: &[u8]) -> Result<(), Refusal> {
-    // SAFETY: the pointer and the length are those of one slice, which is only read.
-    let number = unsafe { raw::roadthrum_check(index.as_ptr(), index.len()) };
-    Refusal::unless_zero(number)
+    Refusal::unless_zero(raw::check(index))
 }
 
 /// Writes to the buffer the list positions of the returned records from `place` on, as many as it has room for. On a refusal the buffer
@@ -40,11 +38,12 @@ pub fn check(index: &[u8]) -> Result<(), Refusal> {
 /// # Ok::<(), roadthrum::Refusal>(())
 /// ```
 pub fn answer(index: &[u8], question: &[u8], place: u32, buffer: &mut [u32]) -> Result<Page, Refusal> {
-    call(raw::roadthrum_answer, index, question, place, buffer)
+    page(raw::answer(index, question, place, buffer))
 }
 
 /// Writes to the buffer a row for each returned record from `place` on, as many as it has room for: the list positions of the records that
-/// stand as evidence, one for each step of the question, the earliest at every step at once. On a refusal the buffer is as it was.
+/// stand as evidence, one for each step of the question, the earliest at every step at once. On a refusal the buffer is as it was. How many
+/// numbers a row takes is what [`steps`](crate::steps) says of the question.
 ///
 /// ```
 /// let index = days::small_day().to_bytes();
@@ -55,11 +54,10 @@ pub fn answer(index: &[u8], question: &[u8], place: u32, buffer: &mut [u32]) -> 
 /// # Ok::<(), roadthrum::Refusal>(())
 /// ```
 pub fn evidence(index: &[u8], question: &[u8], place: u32, buffer: &mut [u32]) -> Result<Page, Refusal> {
-    call(raw::roadthrum_evidence, index, question, place, buffer)
+    page(raw::evidence(index, question, place, buffer))
 }
 
-fn call(call: raw::Call, index: &[u8], question: &[u8], place: u32, buffer: &mut [u32]) -> Result<Page, Refusal> {
-    let [refusal, rows, more, next] = raw::call(call, index, question, place, buffer);
+fn page([refusal, rows, more, next]: [u32; 4]) -> Result<Page, Refusal> {
     Refusal::unless_zero(refusal)?;
     Ok(Page { rows: rows as usize, more: more != 0, next })
 }

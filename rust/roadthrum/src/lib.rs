@@ -19,12 +19,27 @@
 //!
 //! Large answers come page by page, see [`evidence_pages`] and [`answer_pages`]. Each call checks its index first, which costs more the
 //! more records the day has; a page with room for many rows is checked as often as one with room for a few.
+//!
+//! # The library
+//!
+//! The proved library is the file `libroadthrum_c.a`, which `make library` in the repository makes in `target/staticlib`. It is looked for
+//! there, or, where the variable `ROADTHRUM_LIB_DIR` is set when this crate is built, in the folder that it names; a build without the file
+//! ends with a warning that names it. The file is compiled for x86-64 Linux, and a program links it statically. A call takes at most
+//! 98,304 bytes of stack (`ROADTHRUM_STACK` of the header for C), which matters only to threads that are made with little.
+//!
+//! This crate is not proved. What it adds is thin: the unsafe calls, in [`raw`], the types, [`steps`], and the walk from page to page.
+
+#![deny(unsafe_code, unsafe_op_in_unsafe_fn, missing_docs)]
+#![deny(clippy::undocumented_unsafe_blocks)]
 
 mod calls;
 mod pages;
+#[allow(unsafe_code)]
 pub mod raw;
 mod refusal;
+mod steps;
 
 pub use calls::{answer, check, evidence, Page};
 pub use pages::{answer_pages, evidence_pages, Pages, Rows};
 pub use refusal::Refusal;
+pub use steps::steps;

@@ -1,6 +1,7 @@
 //! All records of a question, page by page.
 
-use crate::{answer, evidence, Page, Refusal};
+use crate::steps::steps_if_accepted;
+use crate::{answer, evidence, Refusal};
 
 /// The rows of one page.
 #[derive(Clone, Debug, PartialEq, Eq)]
@@ -40,12 +41,17 @@ impl<'a> IntoIterator for &'a Rows {
     }
 }
 
-/// One of the two calls for rows.
-type Call = fn(&[u8], &[u8], u32, &mut [u32]) -> Result<Page, Refusal>;
+/// Which of the two calls for rows.
+#[derive(Clone, Copy, Debug)]
+enum Call {
+    Answer,
+    Evidence,
+}
 
-/// The pages of a question from place 0 to the last record, each from the place where the page before it ended.
+/// The pages of a question to the last record, each from the place where the page before it ended. The first begins at place 0, or where
+/// [`Pages::starting_at`] says.
 ///
-/// A refusal is given once, and nothing after it. A question without records gives no page.
+/// A refusal is given once, and nothing after it. A walk on which no record is left gives no page.
 #[derive(Clone, Debug)]
 pub struct Pages<'a> {
     call: Call,
@@ -70,7 +76,7 @@ pub struct Pages<'a> {
 /// # Ok::<(), roadthrum::Refusal>(())
 /// ```
 pub fn answer_pages<'a>(index: &'a [u8], question: &'a [u8], room: usize) -> Pages<'a> {
-    Pages::of(answer, index, question, 1, room)
+    Pages::of(Call::Answer, index, question, 1, room)
 }
 
 /// The evidence of all returned records, on pages of at most `room` rows. A room of 0 counts as 1.
@@ -89,22 +95,55 @@ pub fn answer_pages<'a>(index: &'a [u8], question: &'a [u8], room: usize) -> Pag
 /// # Ok::<(), roadthrum::Refusal>(())
 /// ```
 pub fn evidence_pages<'a>(index: &'a [u8], question: &'a [u8], room: usize) -> Pages<'a> {
-    Pages::of(evidence, index, question, steps(question), room)
+    // Of a question that is refused the number is never used, since there are no rows. The limits keep its buffer small.
+    let width = steps_if_accepted(question).clamp(1, MOST_STEPS);
+    Pages::of(Call::Evidence, index, question, width, room)
 }
 
 /// The most steps that a question has.
 const MOST_STEPS: usize = 32;
 
-/// The number of steps of a question that is accepted: each begins with `//`, and no other part of it has that byte. Of any other text the
-/// number is never used, since the call refuses it.
-fn steps(question: &[u8]) -> usize {
-    (question.iter().filter(|byte| **byte == b'/').count() / 2).clamp(1, MOST_STEPS)
-}
-
 impl<'a> Pages<'a> {
     /// A walk from place 0. No page needs more room than the index has labels of 8 bytes.
     fn of(call: Call, index: &'a [u8], question: &'a [u8], width: usize, room: usize) -> Pages<'a> {
         Pages { call, index, question, width, room: room.clamp(1, 1 + index.len() / 8), place: Some(0) }
+    }
+
+    /// The same walk with its next page at this place: the records of that page and of those after it are the returned ones at list
+    /// position `place` or later. Any number is a place; it need not be that of a returned record, and from one behind the last of them
+    /// there is no page.
+    ///
+    /// ```
+    /// use roadthrum::answer_pages;
+    ///
+    /// // The calls with a boarding inside are at the positions 0 to 3.
+    /// let index = days::small_day().to_bytes();
+    /// let positions = |place| -> Result<Vec<u32>, roadthrum::Refusal> {
+    ///     let mut found = Vec::new();
+    ///     for page in answer_pages(&index, b"//call[//board]", 2).starting_at(place) {
+    ///         found.extend(page?.iter().map(|row| row[0]));
+    ///     }
+    ///     Ok(found)
+    /// };
+    /// assert_eq!(positions(0)?, [0, 1, 2, 3]);
+    /// assert_eq!(positions(1)?, [1, 2, 3]);
+    /// assert_eq!(positions(9)?, []);
+    ///
+    /// // A walk that is left can be gone on with later.
+    /// let mut pages = answer_pages(&index, b"//call[//board]", 3);
+    /// pages.next();
+    /// let place = pages.place().expect("a further record remains");
+    /// assert_eq!(positions(place)?, [3]);
+    /// # Ok::<(), roadthrum::Refusal>(())
+    /// ```
+    pub fn starting_at(mut self, place: u32) -> Pages<'a> {
+        self.place = Some(place);
+        self
+    }
+
+    /// Where the next page begins, or nothing when the walk has ended: after a refusal, or when no further record remains.
+    pub fn place(&self) -> Option<u32> {
+        self.place
     }
 }
 
@@ -113,8 +152,12 @@ impl Iterator for Pages<'_> {
 
     fn next(&mut self) -> Option<Self::Item> {
         let place = self.place.take()?;
+        let call = match self.call {
+            Call::Answer => answer,
+            Call::Evidence => evidence,
+        };
         let mut positions = vec![0; self.room * self.width];
-        let page = match (self.call)(self.index, self.question, place, &mut positions) {
+        let page = match call(self.index, self.question, place, &mut positions) {
             Ok(page) => page,
             Err(refusal) => return Some(Err(refusal)),
         };

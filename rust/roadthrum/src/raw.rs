@@ -1,13 +1,24 @@
-//! The proved library as C sees it, for whoever wants its four numbers as they are. `include/roadthrum.h` has the promises.
+//! The proved library's numbers as they are, for whoever wants those of a refusal, too. `include/roadthrum.h` has the promises.
 //!
-//! Each pointer goes with its length; what is written, the rows and the result, overlaps nothing else that is lent.
+//! All that is unsafe in this crate stands in this file. Its functions take slices, whose lengths are true and of which what is written
+//! overlaps nothing else, and that is all that a caller of the library owes.
+//!
+//! ```
+//! use roadthrum::raw;
+//!
+//! let index = days::small_day().to_bytes();
+//! let mut buffer = [7; 2];
+//! assert_eq!(raw::answer(&index, b"//call[//board]", 2, &mut buffer), [0, 2, 0, 5]);
+//! assert_eq!(buffer, [2, 3]);
+//! assert_eq!(raw::answer(&index, b"/call", 2, &mut buffer), [8, 0, 0, 0]);
+//! assert_eq!(raw::check(b""), 1);
+//! ```
 
+// What a caller owes to each of these is said in include/roadthrum.h. None of them is public, nor is what calls them through a pointer.
 extern "C" {
-    /// The number of the first reason against the index, or 0 for a lawful one.
-    pub fn roadthrum_check(index: *const u8, index_len: usize) -> u32;
+    fn roadthrum_check(index: *const u8, index_len: usize) -> u32;
 
-    /// The answer call. The result is refusal, rows, more (0 or 1) and next place.
-    pub fn roadthrum_answer(
+    fn roadthrum_answer(
         index: *const u8,
         index_len: usize,
         question: *const u8,
@@ -18,8 +29,7 @@ extern "C" {
         result: *mut [u32; 4],
     );
 
-    /// The evidence call, with the same parameters.
-    pub fn roadthrum_evidence(
+    fn roadthrum_evidence(
         index: *const u8,
         index_len: usize,
         question: *const u8,
@@ -31,14 +41,36 @@ extern "C" {
     );
 }
 
-/// One of the two calls for rows.
-pub type Call = unsafe extern "C" fn(*const u8, usize, *const u8, usize, u32, *mut u32, usize, *mut [u32; 4]);
+/// The number of the first reason against the index, or 0 for a lawful one.
+pub fn check(index: &[u8]) -> u32 {
+    // SAFETY: the pointer and the length are those of one slice, which is only read.
+    unsafe { roadthrum_check(index.as_ptr(), index.len()) }
+}
+
+/// The answer call. Gives its refusal or 0, the rows written, 1 if a further record remains and else 0, and the next place.
+pub fn answer(index: &[u8], question: &[u8], place: u32, buffer: &mut [u32]) -> [u32; 4] {
+    // SAFETY: this is one of the library's two calls for rows.
+    unsafe { numbers(roadthrum_answer, index, question, place, buffer) }
+}
+
+/// The evidence call. Gives the same four numbers.
+pub fn evidence(index: &[u8], question: &[u8], place: u32, buffer: &mut [u32]) -> [u32; 4] {
+    // SAFETY: this is the other.
+    unsafe { numbers(roadthrum_evidence, index, question, place, buffer) }
+}
+
+/// One of the two calls for rows, or any other function of that type.
+type Call = unsafe extern "C" fn(*const u8, usize, *const u8, usize, u32, *mut u32, usize, *mut [u32; 4]);
 
 /// The four numbers that a call gives.
-pub fn call(call: Call, index: &[u8], question: &[u8], place: u32, buffer: &mut [u32]) -> [u32; 4] {
+///
+/// # Safety
+///
+/// The call has to be one of the library's two: they read and write only what they are lent.
+unsafe fn numbers(call: Call, index: &[u8], question: &[u8], place: u32, buffer: &mut [u32]) -> [u32; 4] {
     let mut result = [u32::MAX; 4];
     // SAFETY: each pointer and length are those of one slice; the buffer and the result are lent to this call alone, so that they overlap
-    // neither each other nor what is read.
+    // neither each other nor what is read; both are aligned as their types are.
     unsafe {
         call(index.as_ptr(), index.len(), question.as_ptr(), question.len(), place, buffer.as_mut_ptr(), buffer.len(), &mut result);
     }

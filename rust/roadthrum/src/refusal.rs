@@ -2,7 +2,7 @@
 
 use std::fmt;
 
-/// The first reason, in the table's order, for which an index or a question is refused.
+/// The first reason, in the table's order, for which an index or a question is refused. Later versions may have further ones.
 ///
 /// ```
 /// use roadthrum::{answer, Refusal};
@@ -13,6 +13,7 @@ use std::fmt;
 /// assert_eq!(Refusal::NotFollowing.to_string(), "refused 8: the question does not follow the notation");
 /// ```
 #[derive(Clone, Copy, Debug, PartialEq, Eq, Hash)]
+#[non_exhaustive]
 pub enum Refusal {
     /// 1: the index has fewer than 4 bytes.
     TooShort = 1,

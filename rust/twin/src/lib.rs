@@ -3,6 +3,8 @@
 //! The steps are those of the library, one module for each of its rooms, and so is the order of growth; how a step is written is what
 //! suits Rust. Nothing here is proved.
 
+#![forbid(unsafe_code)]
+
 mod contents;
 mod cursors;
 mod label;

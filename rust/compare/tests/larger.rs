@@ -4,6 +4,7 @@ use compare::{compare_case, compare_rows, damage_labels, large_case, Case, Seeds
 use days::Seeded;
 use evaluator::{Asked, Row, Way};
 use roadthrum::{answer_pages, evidence_pages, Pages};
+use std::collections::BTreeSet;
 
 fn compare_larger(seed: u64) -> Result<Tally, String> {
     let mut case = large_case(seed);
@@ -15,11 +16,15 @@ fn compare_larger(seed: u64) -> Result<Tally, String> {
         tally.add(compare_rows(&PROVED, &case, &found)?);
     }
     let found = found.map_err(|refusal| format!("a lawful case has the refusal {refusal}\n{case}"))?;
-    let returned: Vec<Row> = found.rows.iter().map(|row| vec![row[found.returned]]).collect();
     let room = 1 + found.rows.len() / (1 + random.below(20));
-    compare_walk(&case, room, answer_pages(&case.index, &case.question, room), &returned)?;
-    compare_walk(&case, room, evidence_pages(&case.index, &case.question, room), &found.rows)?;
-    tally.count("walks of many pages", found.rows.len() > 2 * room);
+    for place in BTreeSet::from([0, case.place]) {
+        let rows: Vec<Row> = found.rows.iter().filter(|row| row[found.returned] >= place).cloned().collect();
+        let returned: Vec<Row> = rows.iter().map(|row| vec![row[found.returned]]).collect();
+        compare_walk(&case, room, answer_pages(&case.index, &case.question, room).starting_at(place), &returned)?;
+        compare_walk(&case, room, evidence_pages(&case.index, &case.question, room).starting_at(place), &rows)?;
+        let kind = if place == 0 { "walks of many pages" } else { "walks of many pages from a later place" };
+        tally.count(kind, rows.len() > 2 * room);
+    }
     if random.chance(1, 2) {
         damage_labels(random, &mut case.index);
         tally.add(compare_case(&PROVED, &case)?);
@@ -51,6 +56,7 @@ fn larger_days() {
     for kind in ["answer: rows and more", "evidence: rows and more", "evidence: rows from a later place", "walks of many pages"] {
         assert!(seen.of(kind) >= 1_000, "{kind} is hardly seen");
     }
+    assert!(seen.of("walks of many pages from a later place") >= 100, "walks from a later place are hardly seen");
     for refusal in [5, 6] {
         assert!(seen.of(&format!("answer: refusal {refusal}")) >= 50, "refusal {refusal} is hardly seen");
     }

@@ -1,6 +1,7 @@
 //! The library beside the first evaluator on small cases, lawful and damaged.
 
-use compare::{compare_case, small_case, Library, Seeds, PROVED, TWIN, WRAPPED};
+use compare::{compare_case, small_case, Library, Seeds, Tally, PROVED, TWIN, WRAPPED};
+use evaluator::{Asked, Way};
 
 /// Compares so many cases, and sees that each refusal and each kind of result is among them so many times.
 fn compare_small(library: &Library, cases: u64, each_refusal: u64, each_kind: u64) {
@@ -33,4 +34,32 @@ fn small_cases_through_the_wrapper() {
 #[test]
 fn small_cases_by_the_twin() {
     compare_small(&TWIN, 100_000, 100, 1_000);
+}
+
+/// Compares what the wrapper says of a question's steps with what the evaluator reads, beside an index without records.
+fn compare_steps(seed: u64) -> Result<Tally, String> {
+    let case = small_case(seed);
+    let expected = Asked::read(&[0, 0, 1, 0], &case.question).map(|asked| asked.found(Way::Sets).steps);
+    let given = roadthrum::steps(&case.question).map_err(|refusal| refusal.number());
+    if expected != given {
+        return Err(format!("steps: expected {expected:?}, given {given:?}\n{case}"));
+    }
+    let mut tally = Tally::default();
+    match given {
+        Ok(steps) => tally.count(&format!("{steps} steps"), true),
+        Err(refusal) => tally.count(&format!("refusal {refusal}"), true),
+    }
+    Ok(tally)
+}
+
+#[test]
+fn steps_of_small_questions() {
+    let seeds = Seeds::new(20_000);
+    let seen = seeds.run(compare_steps);
+    if seeds.one_alone() {
+        return;
+    }
+    for kind in ["1 steps", "2 steps", "5 steps", "32 steps", "refusal 7", "refusal 8", "refusal 9"] {
+        assert!(seen.of(kind) >= 20, "{kind} is hardly seen");
+    }
 }

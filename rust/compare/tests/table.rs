@@ -81,6 +81,8 @@ fn every_row_of_the_table_is_here() {
     let mut rows: Vec<&str> = table().iter().map(|case| case.row).collect();
     rows.dedup();
     assert_eq!(rows.len(), 20, "{rows:?}");
+    let small_day = days::small_day().to_bytes();
+    assert_eq!((small_day.len(), [20, 44, 68].map(|offset| small_day[offset])), (148, [76, 92, 132]));
 }
 
 /// How many cases tell a library from the right one.

@@ -75,7 +75,7 @@ impl Refusal {
         }
         match Refusal::ALL.get(number as usize - 1) {
             Some(refusal) => Err(*refusal),
-            None => unreachable!("the library gave the refusal {number}, which the table of its calls does not have"),
+            None => unreachable!("the library gave the refusal {}, which the table of its calls does not have", number),
         }
     }
 }

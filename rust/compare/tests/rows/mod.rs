@@ -166,10 +166,10 @@ fn what_comes_first() -> Vec<Case> {
     for day in [small_day(), Day::new()] {
         let slashes = "/".repeat(1_025);
         let zeros = "\0".repeat(1_025);
-        let steps = "//a".repeat(342)[..1_025].to_string();
-        // It follows the notation, with too many steps.
-        let accepted_but_for_its_length = "//abc".repeat(205);
-        cases.extend([slashes, zeros, steps, accepted_but_for_its_length].map(|text| Case::new(long, &day, &text, Told::Refused(7))));
+        let ends_in_a_slash = "//a".repeat(342)[..1_025].to_string();
+        // This one follows the notation, with too many steps.
+        let follows = "//abc".repeat(205);
+        cases.extend([slashes, zeros, ends_in_a_slash, follows].map(|text| Case::new(long, &day, &text, Told::Refused(7))));
     }
     let mut level = Day::new();
     level.push("call", (4, 4));

@@ -24,8 +24,8 @@
 //!
 //! The proved library is the file `libroadthrum_c.a`, which `make library` in the repository makes in `target/staticlib`. It is looked for
 //! there, or, where the variable `ROADTHRUM_LIB_DIR` is set when this crate is built, in the folder that it names; a build without the file
-//! ends with a warning that names it. The file is compiled for x86-64 Linux, and a program links it statically. A call takes at most
-//! 98,304 bytes of stack (`ROADTHRUM_STACK` of the header for C), which matters only to threads that are made with little.
+//! ends with a warning that names it. The file is compiled for x86-64 Linux, and a program links it statically. A call takes at most so
+//! much stack as `ROADTHRUM_STACK` of the header for C says, which matters only to threads that are made with little.
 //!
 //! This crate is not proved. What it adds is thin: the unsafe calls, in [`raw`], the types, [`steps`], and the walk from page to page.
 

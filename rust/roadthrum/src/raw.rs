@@ -1,7 +1,7 @@
 //! The proved library's numbers as they are, for whoever wants those of a refusal, too. `include/roadthrum.h` has the promises.
 //!
-//! All that is unsafe in this crate stands in this file. Its functions take slices, whose lengths are true and of which what is written
-//! overlaps nothing else, and that is all that a caller of the library owes.
+//! All that is unsafe in this crate stands in this file. Its functions take slices: their lengths are true, they are aligned, and what is
+//! written overlaps nothing else. But for the stack that is all that a caller of the library owes.
 //!
 //! ```
 //! use roadthrum::raw;

@@ -61,6 +61,37 @@ fn check(index: &[u8]) {
     io::write_all(1, b"\n");
 }
 
+// The bytes of a name's list in a lawful index; of any other index none.
+fn labels_of<'a>(index: &'a [u8], name: &[u8]) -> &'a [u8] {
+    if day::check(index) != 0 {
+        return &index[..0];
+    }
+    contents::lookup(index, name)
+}
+
+// A byte, to be printed.
+fn wide_byte(x: u8) -> u64 {
+    x as u64
+}
+
+// Writes each byte after a blank, as a number.
+fn bytes(s: &[u8]) {
+    let mut i = 0;
+    while i < s.len() {
+        io::write_all(1, b" ");
+        io::print_decimal(1, wide_byte(s[i]));
+        i += 1;
+    }
+}
+
+// Writes a name with the bytes of its list.
+fn look_up(index: &[u8], name: &[u8]) {
+    io::write_all(1, name);
+    io::write_all(1, b" has");
+    bytes(labels_of(index, name));
+    io::write_all(1, b"\n");
+}
+
 // Writes the number that reading a question gives.
 fn read(text: &[u8]) {
     io::write_all(1, b"read ");
@@ -92,6 +123,11 @@ fn small_day() {
     ask(day, b"//call[//board]", 2, 9);
     // a place of 4,294,967,295
     ask(day, b"//call", 1, 4294967295);
+    // the labels of a name, byte by byte; of a name without a row, and of the beginning of one, none
+    look_up(day, b"board");
+    look_up(day, b"cancel");
+    look_up(day, b"can");
+    look_up(day, b"lobby");
     // 1,025 bytes of anything
     refusal(day, &[b'/'; meaning::Question::MOST_BYTES + 1]);
     // a broken index and a broken question: the index's number

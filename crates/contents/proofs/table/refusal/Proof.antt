@@ -29,11 +29,11 @@ b₄ e = b₂ (e .before .before .before)
 
 -- It has at least 4 bytes.
 long : (e : tie.Else2) → 4 ≤ length (b₂ e)
-long e = e .before .before .if1 .left
+long e = omega (arith, e .before .before .if1 .left)
 
 -- It has version 1.
 one : (e : tie.Else2) → version (b₂ e) ≡ 1
-one e = sym (e .before .version-of .ensures) ∙ e .if2 .left
+one e = omega (arith, e .before .version-of .ensures, e .if2 .left)
 
 -- It has at most 256 tags.
 few : (e : tie.Else4) → tags (b₄ e) ≤ mostTags
@@ -54,13 +54,13 @@ small : (e : tie.Else6) → total (b₄ (else₄ (e .before .before))) ≤ mostL
 small e = omega (arith, all-right (e .before) .1, e .if6 .left)
 
 returns : tie.Need-returns
-returns c = refused-1 (c .before .before .args .index .now) (c .if1 .taken)
+returns c = refused-1 (c .before .before .args .index .now) (omega (arith, c .if1 .taken))
 
 version-of-requires : tie.Need-version-of-requires
 version-of-requires c κs = search needs
 
 returns-2 : tie.Need-returns-2
-returns-2 c = refused-2 _ (c .before .before .if1 .left) (λ e. c .if2 .taken (c .before .version-of .ensures ∙ e))
+returns-2 c = refused-2 (c .before .before .before .before .args .index .now) (omega (arith, c .before .before .if1 .left)) (λ e. omega (arith, c .if2 .taken, c .before .version-of .ensures, e))
 
 tags-of-requires : tie.Need-tags-of-requires
 tags-of-requires c κs = search needs

@@ -14,7 +14,7 @@ use Rattle.meaning.specs.Day.{rowAt, nameField}
 use Rattle.meaning.proofs.Laws.Name.{NoFurther}
 use Rattle.name.specs.Runs.{nameRun}
 use Rattle.name.proofs.RunLaws.{run-name, run-of-name, run-within}
-use Rattle.contents.specs.Rows.{ZeroFrom, Named}
+use Rattle.contents.specs.Tests.{ZeroFrom, Named}
 use Rattle.contents.proofs.Bounds.{below-or-not}
 
 -- The bytes from where row r begins to 16 bytes further on are its name field.

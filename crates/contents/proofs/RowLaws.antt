@@ -11,7 +11,7 @@ use Rattle.meaning.specs.Names.{Sooner}
 use Rattle.meaning.specs.Day.{tags, count, labels, offset, bodyAt, nameField, RowRight}
 use Rattle.meaning.specs.Answers.{Decides}
 use Rattle.meaning.proofs.Decide.{decides-as}
-use Rattle.contents.specs.Rows.{Named, InOrder, AllRows}
+use Rattle.contents.specs.Tests.{Named, InOrder, AllRows}
 
 -- The first row has none before it.
 pub first-in-order : (b : List ℕ) (r : ℕ) → r ≡ 0 → InOrder b r

@@ -6,7 +6,7 @@ ghost use Rattle.meaning.specs.Limits.{mostName};
 ghost use Rattle.meaning.specs.Names.{filled, Sooner};
 ghost use Rattle.meaning.specs.Day.{rowAt, nameField};
 ghost use Rattle.meaning.specs.Answers.{Decides};
-ghost use Rattle.contents.specs.Rows.{ZeroFrom, Named};
+ghost use Rattle.contents.specs.Tests.{ZeroFrom, Named};
 use meaning::Index;
 use meaning::Name;
 

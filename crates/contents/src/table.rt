@@ -7,7 +7,7 @@ ghost use Rattle.meaning.specs.Day.{tags, rowAt, offset, bodyAt, RowRight};
 ghost use Rattle.meaning.specs.Refusals.{Verdict};
 ghost use Rattle.meaning.specs.Answers.{Decides};
 ghost use Rattle.contents.specs.Parts.{contentsTable};
-ghost use Rattle.contents.specs.Rows.{InOrder, AllRows};
+ghost use Rattle.contents.specs.Tests.{InOrder, AllRows};
 use crate::names::comes_before;
 use crate::names::has_name;
 use crate::names::name_field;

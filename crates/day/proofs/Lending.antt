@@ -38,7 +38,7 @@ use borrow.Table.OneValue.{part-in}
 use Rattle.meaning.specs.Limits.{mostNested}
 use Rattle.day.specs.declared.open.Open.{Open}
 use Rattle.day.specs.declared.sweep.State.{State}
-use Rattle.day.specs.Entries.{blank, entry}
+use Rattle.day.specs.Entries.{blank, Taken}
 use Rattle.day.proofs.Rounds.{reread}
 use Rattle.day.proofs.open.Open as T
 use Rattle.day.proofs.open.Open.Laws as T′
@@ -101,8 +101,8 @@ module _ {M : Type 1} (𝓤 : URA M) (H : Heap 𝓤) (A : Atoms 𝓤) (mem : Mem
   Push = tripleOf 𝓤 H A push.signature (push.spec 𝓤 H A mem run)
 
   -- What a caller learns of `pop`'s result.
-  pub pop-of : (κ : Lft) (x : RefT (List Open)) (n : ℕ) (r : Open) → ent 𝓤 (ensured 𝓤 H A pop.ended (pop.clauses 𝓤 H A mem run) (κ, tt) (x, (n, tt)) tt r) (fact 𝓤 (r ≡ entry (x .now) n))
-  pop-of κ x n r = exE 𝓤 _ (λ ws. snd∗ 𝓤 (sem 𝓤 H A (lasts pop.ended (κ, tt) (x, (n, tt)) ws)) (fact 𝓤 (r ≡ entry (x .now) n)))
+  pub pop-of : (κ : Lft) (x : RefT (List Open)) (n : ℕ) (r : Open) → ent 𝓤 (ensured 𝓤 H A pop.ended (pop.clauses 𝓤 H A mem run) (κ, tt) (x, (n, tt)) tt r) (fact 𝓤 (Taken (x .now) n r))
+  pop-of κ x n r = exE 𝓤 _ (λ ws. snd∗ 𝓤 (sem 𝓤 H A (lasts pop.ended (κ, tt) (x, (n, tt)) ws)) (fact 𝓤 (Taken (x .now) n r)))
 
 -- The table at address l, lent under the name δ.
 abbrev pub lent : ℕ → GName → List Open → RefT (List Open)

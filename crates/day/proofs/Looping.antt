@@ -15,7 +15,7 @@ use Rattle.meaning.specs.Labels.{Place}
 use Rattle.day.specs.declared.open.Open.{Open}
 use Rattle.day.specs.declared.sweep.State.{State}
 use Rattle.day.specs.Entries.{entry}
-use Rattle.day.specs.Turns.{Judged, Turned}
+use Rattle.day.specs.Sweep.{Judged, Turned}
 use Rattle.day.proofs.Rounds.{Standing, Round, reread, weight, round-less, round-push, round-pop}
 use Rattle.day.proofs.sweep.State as S
 use Rattle.day.proofs.sweep.State.Laws as S′

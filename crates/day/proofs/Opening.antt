@@ -10,26 +10,26 @@ use Rattle.meaning.specs.Labels.{Lists, Place, Holds, Nested}
 use Rattle.order.specs.Walk.{startOf, Seen, Waits, Sorted, next, Comes, Moved}
 use Rattle.order.proofs.WalkLaws.{below-or, precedes-le, seen-old, seen-new, seen-next, waits-old}
 use Rattle.day.specs.Parts.{Ordered}
-use Rattle.day.specs.Turns.{Within, Before, Fine, Swept, pushed}
+use Rattle.day.specs.Sweep.{LiesIn, Before, Fine, Swept, pushed}
 use Rattle.day.proofs.Sweeping.{fine-sym, pushed-below, pushed-top}
 
 module _ (t : Lists) (law : Ordered t) (pos : ℕ → ℕ) (stack : ℕ → Place) (depth r : ℕ) (w : Swept t pos stack depth) (sorted : Sorted t pos) (comes : Comes t pos r)
-    (top : (k : ℕ) → depth ≡ suc k → Within t (next pos r) (stack k)) where
+    (top : (k : ℕ) → depth ≡ suc k → LiesIn t (next pos r) (stack k)) where
   -- The next label's place.
   abbrev x₀ : Place
   x₀ = next pos r
 
   -- The next label lies inside every open record, as it lies inside the last.
-  inside-all : (k : ℕ) → k < depth → Within t x₀ (stack k)
+  inside-all : (k : ℕ) → k < depth → LiesIn t x₀ (stack k)
   inside-all k l = go depth refl
     where
-      further : (m : ℕ) → depth ≡ suc m → k < m → Within t x₀ (stack k)
+      further : (m : ℕ) → depth ≡ suc m → k < m → LiesIn t x₀ (stack k)
       further m e f =
           let a = top m e in
           let b = w .nest k m f (omega arith) in
           record { after = omega arith; before = omega arith }
 
-      go : (m : ℕ) → depth ≡ m → Within t x₀ (stack k)
+      go : (m : ℕ) → depth ≡ m → LiesIn t x₀ (stack k)
       go zero e = absurd (omega arith)
       go (suc m) e = ⊎-elim (λ f. top k (e ∙ ap suc (sym f))) (λ f. further m e f) (below-or (subst (λ (i : ℕ). k < i) e l))
 
@@ -43,30 +43,30 @@ module _ (t : Lists) (law : Ordered t) (pos : ℕ → ℕ) (stack : ℕ → Plac
       holds : (i : ℕ) → i < suc mostNested → Holds t (chain i)
       holds i l = ⊎-elim (λ e. subst (λ (x : Place). Holds t x) (sym (ap chain e ∙ pushed-top stack mostNested x₀)) (comes .waits .holds)) (λ k. subst (λ (x : Place). Holds t x) (sym (pushed-below stack mostNested x₀ i k)) (w .held i (omega arith) .holds)) (below-or l)
 
-      inside : (i : ℕ) → suc i < suc mostNested → Within t (chain (suc i)) (chain i)
+      inside : (i : ℕ) → suc i < suc mostNested → LiesIn t (chain (suc i)) (chain i)
       inside i l =
-          subst (λ (x : Place). Within t (chain (suc i)) x) (sym (pushed-below stack mostNested x₀ i (omega arith)))
-          (⊎-elim (λ e. subst (λ (x : Place). Within t x (stack i)) (sym (ap chain e ∙ pushed-top stack mostNested x₀)) (inside-all i (omega arith)))
-          (λ k. subst (λ (x : Place). Within t x (stack i)) (sym (pushed-below stack mostNested x₀ (suc i) k)) (w .nest i (suc i) (omega arith) (omega arith))) (below-or l))
+          subst (λ (x : Place). LiesIn t (chain (suc i)) x) (sym (pushed-below stack mostNested x₀ i (omega arith)))
+          (⊎-elim (λ e. subst (λ (x : Place). LiesIn t x (stack i)) (sym (ap chain e ∙ pushed-top stack mostNested x₀)) (inside-all i (omega arith)))
+          (λ k. subst (λ (x : Place). LiesIn t x (stack i)) (sym (pushed-below stack mostNested x₀ (suc i) k)) (w .nest i (suc i) (omega arith) (omega arith))) (below-or l))
 
   -- And else it is put on top, and its list's cursor moves on.
   module _ (pos′ : ℕ → ℕ) (moved : Moved pos pos′ r) (room : depth < mostNested) where
     -- The next label is nested in what was seen, or apart from it.
     new-fine : (x : Place) → Seen t pos x → Fine t x x₀
-    new-fine x s = ⊎-elim (λ p. inr (inl (subst (λ (y : Place). Within t x₀ y) (p .2) (inside-all (p .0) (p .1))))) (λ b. inr (inr (inl b))) (w .closed x x₀ s (comes .waits))
+    new-fine x s = ⊎-elim (λ p. inr (inl (subst (λ (y : Place). LiesIn t x₀ y) (p .2) (inside-all (p .0) (p .1))))) (λ b. inr (inr (inl b))) (w .closed x x₀ s (comes .waits))
 
     -- A chain that the next label ends, whose other labels were seen before.
     module _ (c : ℕ → Place) (chain : Nested t (suc mostNested) c) (old : (i : ℕ) → i < mostNested → Seen t pos (c i)) (last : c mostNested ≡ x₀) where
       -- The next label lies inside the one that stands d + 1 places before it in the chain.
-      around : (d i : ℕ) → i + suc d ≡ mostNested → Within t x₀ (c i)
-      around zero i e = subst (λ (x : Place). Within t x (c i)) (ap c (omega arith) ∙ last) (chain .inside i (omega arith))
+      around : (d i : ℕ) → i + suc d ≡ mostNested → LiesIn t x₀ (c i)
+      around zero i e = subst (λ (x : Place). LiesIn t x (c i)) (ap c (omega arith) ∙ last) (chain .inside i (omega arith))
       around (suc d) i e =
           let a = around d (suc i) (omega arith) in
           let b = chain .inside i (omega arith) in
           record { after = omega arith; before = omega arith }
 
       -- The next label lies inside every other of the chain.
-      around-at : (i : ℕ) → i < mostNested → Within t x₀ (c i)
+      around-at : (i : ℕ) → i < mostNested → LiesIn t x₀ (c i)
       around-at i l = around (mostNested - suc i) i (omega arith)
 
       -- Every other label of the chain is open.
@@ -81,11 +81,11 @@ module _ (t : Lists) (law : Ordered t) (pos : ℕ → ℕ) (stack : ℕ → Plac
           let a = open-at i m in
           let b = open-at (suc i) l in
           let ih = deeper i m in
-          let c-in : Within t (c (suc i)) (c i) = chain .inside i (omega arith) in
-          let up : Within t (stack (b .0)) (stack (a .0)) = subst (λ (x : Place). Within t x (stack (a .0))) (sym (b .2)) (subst (λ (x : Place). Within t (c (suc i)) x) (sym (a .2)) c-in) in
+          let c-in : LiesIn t (c (suc i)) (c i) = chain .inside i (omega arith) in
+          let up : LiesIn t (stack (b .0)) (stack (a .0)) = subst (λ (x : Place). LiesIn t x (stack (a .0))) (sym (b .2)) (subst (λ (x : Place). LiesIn t (c (suc i)) x) (sym (a .2)) c-in) in
           go (a .0) (b .0) (a .1) up ih (decLe (b .0) (a .0))
         where
-          go : (j k : ℕ) → j < depth → Within t (stack k) (stack j) → i ≤ j → Dec (k ≤ j) → suc i ≤ k
+          go : (j k : ℕ) → j < depth → LiesIn t (stack k) (stack j) → i ≤ j → Dec (k ≤ j) → suc i ≤ k
           go j k jn up h (no m) = let f = lt-of-not-le m in omega arith
           go j k jn up h (yes m) = ⊎-elim (λ e. absurd (omega (arith, up .after, ap (λ (i : ℕ). startOf t (stack i)) e))) (λ m. absurd (omega (arith, up .after, w .nest k j m jn .after))) (eq-or-lt-of-le m)
 
@@ -94,7 +94,7 @@ module _ (t : Lists) (law : Ordered t) (pos : ℕ → ℕ) (stack : ℕ → Plac
       too-deep = let a = open-at (mostNested - 1) (omega arith) in let d = deeper (mostNested - 1) (omega arith) in omega (arith, a .1)
 
     -- Nothing that is seen lies inside the next label.
-    none-inside : (x y : Place) → Seen t pos′ y → Within t y x → x ≡ x₀ → ⊥
+    none-inside : (x y : Place) → Seen t pos′ y → LiesIn t y x → x ≡ x₀ → ⊥
     none-inside x y s i e = go (seen-old t pos pos′ r moved y s)
       where
         after : startOf t x₀ < startOf t y
@@ -110,7 +110,7 @@ module _ (t : Lists) (law : Ordered t) (pos : ℕ → ℕ) (stack : ℕ → Plac
       fine = λ x y s v d. fine x y d (seen-old t pos pos′ r moved x s) (seen-old t pos pos′ r moved y v);
       shallow = shallow;
       held = λ k l. ⊎-elim (λ e. subst (λ (z : Place). Seen t pos′ z) (sym (ap (pushed stack depth x₀) e ∙ pushed-top stack depth x₀)) (seen-next t pos pos′ r moved (comes .waits .holds))) (λ m. subst (λ (z : Place). Seen t pos′ z) (sym (pushed-below stack depth x₀ k m)) (seen-new t pos pos′ r moved (stack k) (w .held k m))) (below-or l);
-      nest = λ j k l m. subst (λ (z : Place). Within t (pushed stack depth x₀ k) z) (sym (pushed-below stack depth x₀ j (omega arith))) (nest j k l (below-or m));
+      nest = λ j k l m. subst (λ (z : Place). LiesIn t (pushed stack depth x₀ k) z) (sym (pushed-below stack depth x₀ j (omega arith))) (nest j k l (below-or m));
       closed = λ x y s v. closed x y v (seen-old t pos pos′ r moved x s);
     }
       where
@@ -130,9 +130,9 @@ module _ (t : Lists) (law : Ordered t) (pos : ℕ → ℕ) (stack : ℕ → Plac
             go (inr e) = too-deep c chain old e
             go (inl o) = w .shallow c chain (λ i l. ⊎-elim (λ e. subst (λ (j : ℕ). Seen t pos (c j)) (sym e) o) (λ m. old i m) (below-or l))
 
-        nest : (j k : ℕ) → j < k → (k ≡ depth) ⊎ (k < depth) → Within t (pushed stack depth x₀ k) (stack j)
-        nest j k l (inl e) = subst (λ (z : Place). Within t z (stack j)) (sym (ap (pushed stack depth x₀) e ∙ pushed-top stack depth x₀)) (inside-all j (omega arith))
-        nest j k l (inr m) = subst (λ (z : Place). Within t z (stack j)) (sym (pushed-below stack depth x₀ k m)) (w .nest j k l m)
+        nest : (j k : ℕ) → j < k → (k ≡ depth) ⊎ (k < depth) → LiesIn t (pushed stack depth x₀ k) (stack j)
+        nest j k l (inl e) = subst (λ (z : Place). LiesIn t z (stack j)) (sym (ap (pushed stack depth x₀) e ∙ pushed-top stack depth x₀)) (inside-all j (omega arith))
+        nest j k l (inr m) = subst (λ (z : Place). LiesIn t z (stack j)) (sym (pushed-below stack depth x₀ k m)) (w .nest j k l m)
 
         closed : (x y : Place) → Waits t pos′ y → Seen t pos x ⊎ (x ≡ x₀) → ((k : ℕ) × (k < suc depth) × (pushed stack depth x₀ k ≡ x)) ⊎ Before t x y
         closed x y v (inr e) = inl (depth, omega arith, pushed-top stack depth x₀ ∙ sym e)

@@ -19,19 +19,19 @@ use Rattle.order.proofs.Left.{left, left-falls}
 use Rattle.day.specs.declared.open.Open.{Open}
 use Rattle.day.specs.declared.sweep.State.{State}
 use Rattle.day.specs.Entries.{blank, entry}
-use Rattle.day.specs.Turns.{Swept, pushed, Same, Innermost, Ready, Fresh, Judged, over, closing, opening}
+use Rattle.day.specs.Sweep.{Swept, pushed, Same, Innermost, BeforeTurn, Fresh, Judged, over, closing, opening}
 use Rattle.day.proofs.Sweeping.{pushed-below, pushed-top, sweep-begin}
 
 -- The open records stand in the table.
-abbrev pub Held : Lists → (ℕ → Place) → List Open → ℕ → Type 0
-Held t stack table depth = (k : ℕ) → k < depth → Same t (stack k) (entry table k)
+abbrev pub InTable : Lists → (ℕ → Place) → List Open → ℕ → Type 0
+InTable t stack table depth = (k : ℕ) → k < depth → Same t (stack k) (entry table k)
 
 -- The sweep between two turns.
 pub record Standing (b : List ℕ) (m : ℕ) (tree places : List ℕ) (table : List Open) (s : State) (stack : ℕ → Place) : Type 0 where
-  pub ready : Ready b m tree places (s .depth) (s .least)
+  pub ready : BeforeTurn b m tree places (s .depth) (s .least)
   pub swept : Swept (listsOf b) (cursor b places) stack (s .depth)
   pub inner : Innermost (listsOf b) stack s
-  pub held : Held (listsOf b) stack table (s .depth)
+  pub held : InTable (listsOf b) stack table (s .depth)
 
 -- The loop's invariant: the sweep stands between two turns, and when it is over its answer is right.
 abbrev pub Round : Bool → List ℕ → ℕ → List ℕ → List ℕ → List Open → State → Type 0
@@ -108,7 +108,7 @@ module _ (b : List ℕ) (m : ℕ) (tree places : List ℕ) (table : List Open) (
               subst (λ (y : Place). Same (listsOf b) y (s′ .inner)) (sym (ap stack′ q ∙ pushed-top stack (s .depth) x)) (o .same)
 
           -- The record that is opened stands at its place, and the others stay.
-          held : Held (listsOf b) stack′ table′ (s′ .depth)
+          held : InTable (listsOf b) stack′ table′ (s′ .depth)
           held k l = here (below-or (subst (λ (n : ℕ). k < n) (o .one) l))
             where
               here : (k ≡ s .depth) ⊎ (k < s .depth) → Same (listsOf b) (stack′ k) (entry table′ k)
@@ -133,14 +133,14 @@ module _ (b : List ℕ) (m : ℕ) (tree places : List ℕ) (table : List Open) (
           subst (λ (g : Bool). Round g b m tree′ places′ table s″) (sym e) (
             stack,
             record {
-              ready = subst (λ (xs : List ℕ). Ready b m xs places′ (s′ .depth) (s′ .least)) (sym te) (subst (λ (xs : List ℕ). Ready b m tree xs (s′ .depth) (s′ .least)) (sym pe) ready);
+              ready = subst (λ (xs : List ℕ). BeforeTurn b m xs places′ (s′ .depth) (s′ .least)) (sym te) (subst (λ (xs : List ℕ). BeforeTurn b m tree xs (s′ .depth) (s′ .least)) (sym pe) ready);
               swept = subst (λ (xs : List ℕ). Swept (listsOf b) (cursor b xs) stack (s′ .depth)) (sym pe) (c .swept);
               inner = inner;
               held = λ k l. w .held k (omega (arith, c .one));
             },
           )
         where
-          ready : Ready b m tree places (s′ .depth) (s′ .least)
+          ready : BeforeTurn b m tree places (s′ .depth) (s′ .least)
           ready = record { walk = w .ready .walk; names = subst (λ (n : ℕ). Names (listsOf b) (cursor b places) n) (sym (c .least)) (w .ready .names); ordered = w .ready .ordered; shallow = omega (arith, w .ready .shallow, c .one) }
 
           inner : Innermost (listsOf b) stack s″

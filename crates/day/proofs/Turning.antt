@@ -11,13 +11,13 @@ use Rattle.order.specs.Walk.{startOf, endOf, Sorted, next, Comes, Moved}
 use Rattle.order.proofs.WalkLaws.{precedes-le}
 use Rattle.day.specs.declared.sweep.State.{State}
 use Rattle.day.specs.Parts.{Ordered}
-use Rattle.day.specs.Turns.{Within, Swept, pushed, Closes, Refused, Same, Innermost, Topmost, Closed, Opened}
+use Rattle.day.specs.Sweep.{LiesIn, Swept, pushed, Closes, Refuses, Same, Innermost, Topmost, ClosesOne, OpensOne}
 use Rattle.day.proofs.Sweeping.{sweep-pop, sweep-clash}
 use Rattle.day.proofs.Opening.{sweep-deep, sweep-push}
 
 module _ (t : Lists) (law : Ordered t) (pos : ℕ → ℕ) (s : State) (stack : ℕ → Place) (swept : Swept t pos stack (s .depth)) (inner : Innermost t stack s) (sorted : Sorted t pos) (r start : ℕ) (comes : Comes t pos r) (start-is : start ≡ startOf t (next pos r)) where
   -- The innermost record ends before the next label starts: it is closed.
-  pub turn-close : (s′ : State) → Closes (s .depth) (s .inner) start → s′ .depth ≡ s .depth - 1 → Topmost s′ → s′ .least ≡ s .least → Closed t pos stack s s′
+  pub turn-close : (s′ : State) → Closes (s .depth) (s .inner) start → s′ .depth ≡ s .depth - 1 → Topmost s′ → s′ .least ≡ s .least → ClosesOne t pos stack s s′
   turn-close s′ c e top same = record {
     one = one;
     top = top;
@@ -30,7 +30,7 @@ module _ (t : Lists) (law : Ordered t) (pos : ℕ → ℕ) (s : State) (stack : 
 
   module _ (end : ℕ) (end-is : end ≡ endOf t (next pos r)) (stays : Closes (s .depth) (s .inner) start → ⊥) where
     -- A record that starts after the innermost and ends before it lies inside it.
-    inside : (k : ℕ) → s .depth ≡ suc k → s .inner .start ≢ start → end < s .inner .end → Within t (next pos r) (stack k)
+    inside : (k : ℕ) → s .depth ≡ suc k → s .inner .start ≢ start → end < s .inner .end → LiesIn t (next pos r) (stack k)
     inside k e ne l = record {
       after = ⊎-elim (λ g. absurd (ne (inner k e .start ∙ g ∙ sym (start-is)))) (λ g. g) (eq-or-lt-of-le (precedes-le t (stack k) (next pos r) (sorted (stack k) (next pos r) (swept .held k (omega arith)) (comes .waits))));
       before = omega (arith, inner k e .end, end-is);
@@ -52,7 +52,7 @@ module _ (t : Lists) (law : Ordered t) (pos : ℕ → ℕ) (s : State) (stack : 
         reach = ⊎-elim (λ l. absurd (stays (some, l))) (λ n. omega arith) (or-not (lt-decides (s .inner .end) start))
 
     -- A refused record is one of refusal 6.
-    pub turn-refuse : Refused (s .depth) (s .inner) start end → Tangled t
+    pub turn-refuse : Refuses (s .depth) (s .inner) start end → Tangled t
     turn-refuse (some, why) = ⊎-elim (λ e. clash some (inl e)) (λ g. ⊎-elim (λ l. clash some (inr l)) full g) why
       where
         full : s .depth ≡ mostNested → Tangled t
@@ -62,8 +62,8 @@ module _ (t : Lists) (law : Ordered t) (pos : ℕ → ℕ) (s : State) (stack : 
             (or-not (eq-decides (s .inner .start) start))
 
     -- A record that is not refused is opened.
-    pub turn-open : (Refused (s .depth) (s .inner) start end → ⊥) → s .depth < mostNested → (pos′ : ℕ → ℕ) → Moved pos pos′ r
-        → (s′ : State) → s′ .depth ≡ suc (s .depth) → s′ .at ≡ s .depth → s′ .inner .start ≡ start → s′ .inner .end ≡ end → s′ .inner .list ≡ r → Opened t pos pos′ stack s s′
+    pub turn-open : (Refuses (s .depth) (s .inner) start end → ⊥) → s .depth < mostNested → (pos′ : ℕ → ℕ) → Moved pos pos′ r
+        → (s′ : State) → s′ .depth ≡ suc (s .depth) → s′ .at ≡ s .depth → s′ .inner .start ≡ start → s′ .inner .end ≡ end → s′ .inner .list ≡ r → OpensOne t pos pos′ stack s s′
     turn-open free room pos′ moved s′ one top starts ends lists = record {
       list = r;
       holds = comes .waits .holds;
@@ -75,9 +75,9 @@ module _ (t : Lists) (law : Ordered t) (pos : ℕ → ℕ) (s : State) (stack : 
       swept = subst (λ (n : ℕ). Swept t pos′ (pushed stack (s .depth) (next pos r)) n) (sym one) (sweep-push t law pos stack (s .depth) r swept sorted comes top-in pos′ moved room);
     }
       where
-        top-in : (k : ℕ) → s .depth ≡ suc k → Within t (next pos r) (stack k)
+        top-in : (k : ℕ) → s .depth ≡ suc k → LiesIn t (next pos r) (stack k)
         top-in k e = let some : 0 < s .depth = omega arith in inside k e (λ q. free (some, inl q)) (⊎-elim (λ l. absurd (free (some, inr (inl l)))) (λ n. omega arith) (or-not (le-decides (s .inner .end) end)))
 
 -- There is room where a record is not refused.
-pub turn-room : (s : State) (start end : ℕ) → s .depth ≤ mostNested → (Refused (s .depth) (s .inner) start end → ⊥) → s .depth < mostNested
+pub turn-room : (s : State) (start end : ℕ) → s .depth ≤ mostNested → (Refuses (s .depth) (s .inner) start end → ⊥) → s .depth < mostNested
 turn-room s start end l free = ⊎-elim (λ e. absurd (free (omega arith, inr (inr e)))) (λ h. h) (eq-or-lt-of-le l)

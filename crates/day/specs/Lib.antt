@@ -2,4 +2,4 @@
 pub mod Parts
 pub mod Ordering
 pub mod Entries
-pub mod Turns
+pub mod Sweep

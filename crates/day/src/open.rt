@@ -1,8 +1,7 @@
 // The table of the records that are still open, one inside the other: place 0 has the outermost.
-ghost use mathlib.Core.Path.{_≡_};
 ghost use Prim.Native.Nat.{_<_};
-ghost use lib.ListN.{length, set};
-ghost use Rattle.day.specs.Entries.{entry};
+ghost use lib.ListN.{length};
+ghost use Rattle.day.specs.Entries.{Stored, Taken};
 
 // A record that is still open: its numbers and its list.
 pub struct Open {
@@ -14,7 +13,7 @@ pub struct Open {
 // The record goes to a place of the table.
 pub fn push(table: &mut [Open], at: usize, o: Open)
     requires { ⌜ at < length (now table) ⌝ }
-    ensures { λ _. ⌜ now (table .exit) ≡ set (now (table .entry)) at o ⌝ }
+    ensures { λ _. ⌜ Stored (now (table .entry)) at o (now (table .exit)) ⌝ }
 {
     table[at] = o;
 }
@@ -22,7 +21,7 @@ pub fn push(table: &mut [Open], at: usize, o: Open)
 // The record at a place of the table: the innermost, once the one above it is closed.
 pub fn pop(table: &[Open], at: usize) -> Open
     requires { ⌜ at < length (now table) ⌝ }
-    ensures { λ r. ⌜ r ≡ entry (now (table .entry)) at ⌝ }
+    ensures { λ r. ⌜ Taken (now (table .entry)) at r ⌝ }
 {
     table[at]
 }

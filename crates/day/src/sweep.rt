@@ -7,7 +7,7 @@ ghost use Rattle.meaning.specs.Answers.{Decides};
 ghost use Rattle.meaning.specs.Day.{listsOf, WrongNesting};
 ghost use Rattle.contents.specs.Parts.{Placed};
 ghost use Rattle.day.specs.Parts.{Ordered};
-ghost use Rattle.day.specs.Turns.{Closes, Refused, Topmost, Ready, Turned, Fresh};
+ghost use Rattle.day.specs.Sweep.{Closes, Refuses, Topmost, BeforeTurn, Turned, Fresh};
 use super::open;
 use super::open::Open;
 use contents::rows;
@@ -112,7 +112,7 @@ fn closes(depth: usize, inner: Open, start: u32) -> bool
 
 // Whether a record that starts before the innermost open one has ended is refused.
 fn refused(depth: usize, inner: Open, start: u32, end: u32) -> bool
-    ensures { λ r. ⌜ Decides (Refused depth inner start end) r ⌝ }
+    ensures { λ r. ⌜ Decides (Refuses depth inner start end) r ⌝ }
 {
     if depth == 0 {
         return false;
@@ -137,7 +137,7 @@ fn judge(
     places: &mut [usize; Index::MOST_TAGS],
     s: State,
 ) -> State
-    requires { ⌜ Ready (now index) m (now tree) (now places) (s .depth) (s .least) ⌝ }
+    requires { ⌜ BeforeTurn (now index) m (now tree) (now places) (s .depth) (s .least) ⌝ }
     ensures turned { λ r. ⌜ Turned (now (index .entry)) m (now (tree .entry)) (now (places .entry)) s (now (tree .exit)) (now (places .exit)) r ⌝ }
     ensures fits { λ r. ⌜ r .at < mostNested ⌝ }
 {

@@ -8,7 +8,7 @@ use mathlib.Core.List.{List}
 use lib.ListN.{length, getD}
 use Rattle.meaning.specs.Answers.{Decides, fails}
 use Rattle.meaning.proofs.Decide.{decides-as}
-use Rattle.contents.specs.Rows.{ZeroFrom}
+use Rattle.contents.specs.Tests.{ZeroFrom}
 use Rattle.contents.proofs.FieldLaws.{is-filled, filled-byte, filled-zeros, not-longer}
 use Rattle.contents.proofs.names.is_filled.Statement.{statement}
 use Rattle.contents.proofs.names.is_filled.Tie as tie

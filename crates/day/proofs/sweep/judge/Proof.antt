@@ -13,7 +13,7 @@ use Rattle.meaning.proofs.Decide.{if-true, if-false}
 use Rattle.order.specs.declared.Coming.the-variants.{Label}
 use Rattle.order.specs.Walk.{Foretells}
 use Rattle.order.specs.Standing.{cursor, Names}
-use Rattle.day.specs.Turns.{Refused, over, closing, opening}
+use Rattle.day.specs.Sweep.{Refuses, over, closing, opening}
 use Rattle.day.proofs.Passing.{sweep-end}
 use Rattle.day.proofs.Turning.{turn-close, turn-refuse, turn-open, turn-room}
 use Rattle.day.proofs.sweep.judge.Statement.{statement}
@@ -47,7 +47,7 @@ abbrev label₂ : tie.After-refused → tie.After-coming
 label₂ c = label₁ (c .before .before)
 
 -- The label is not refused.
-free : (c : tie.Else2) → Refused (start (label₂ (c .before)) .args .s .depth) (start (label₂ (c .before)) .args .s .inner) (label₂ (c .before) .coming .given .0 .1 .1 .0) (label₂ (c .before) .coming .given .0 .1 .1 .1 .0) → ⊥
+free : (c : tie.Else2) → Refuses (start (label₂ (c .before)) .args .s .depth) (start (label₂ (c .before)) .args .s .inner) (label₂ (c .before) .coming .given .0 .1 .1 .0) (label₂ (c .before) .coming .given .0 .1 .1 .1 .0) → ⊥
 free c = if-false (c .before .refused .ensures) (c .if2 .left)
 
 -- There is room for the record that is opened.

@@ -23,7 +23,7 @@ use denote.Triple.Table.{entered, cited}
 use denote.Triple.Walked.{needs, goes-none, goes-none-slice, goes-ref, Walks, walked, walk-meets}
 use denote.Exit.{yes}
 use denote.Signature.{plain}
-use Rattle.day.specs.Turns.{Fresh}
+use Rattle.day.specs.Sweep.{Fresh}
 use Rattle.day.proofs.sweep.State as S
 use Rattle.day.proofs.sweep.State.Laws as S′
 use Rattle.day.proofs.sweep.judge.Symbol as judge-def

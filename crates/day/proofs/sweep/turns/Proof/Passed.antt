@@ -31,7 +31,7 @@ use denote.Signature.{plain}
 use Rattle.meaning.specs.Answers.{Decides}
 use Rattle.meaning.specs.Day.{WrongNesting}
 use Rattle.day.specs.declared.sweep.State.{State}
-use Rattle.day.specs.Turns.{Ready}
+use Rattle.day.specs.Sweep.{BeforeTurn}
 use Rattle.day.proofs.sweep.State as S
 use Rattle.day.proofs.sweep.State.Laws as S′
 use Rattle.day.proofs.sweep.judge as judge
@@ -114,7 +114,7 @@ module _ {M : Type 1} (𝓤 : URA M) (H : Heap 𝓤) (A : Atoms 𝓤) (W : Given
   to-judge α β δ₁ δ₂ tr ps s =
       (((p .κ₀, (α ∷ [], (β ∷ [], tt))), (p .q₀, (fullShare, (fullShare, tt))), tt, (x p, (p .m, (xT p δ₁ tr, (xP p δ₂ ps, (s, tt))))), (v p ∷ [], (vint w64 (p .m) ∷ [], (vptr (p .b₁) (p .o₁) ∷ [], (vptr (p .b₂) (p .o₂) ∷ [], (S′.lowered s ∷ [], tt)))))), tt)
 
-  pub goes-judge : (α β : ℕ) (δ₁ δ₂ : GName) (tr ps : List ℕ) (s : State) → Is S.the-row s (S′.lowered s ∷ []) → Ready (p .ix) (p .m) tr ps (s .depth) (s .least)
+  pub goes-judge : (α β : ℕ) (δ₁ δ₂ : GName) (tr ps : List ℕ) (s : State) → Is S.the-row s (S′.lowered s ∷ []) → BeforeTurn (p .ix) (p .m) tr ps (s .depth) (s .least)
       → ent 𝓤 (⋆ 𝓤 H A ((‵ (flft (p .κ₀) (p .q₀)) ⊛ (‵ (flft (α ∷ []) fullShare) ⊛ ‵ (flft (β ∷ []) fullShare))) ∷ ‵ (Own p) ∷ (‵ (OwnT p (α ∷ []) δ₁ tr) ⊛ ‵ (OwnP p (β ∷ []) δ₂ ps)) ∷ [])) (Judge 𝓤 H A mem run .pre (to-judge α β δ₁ δ₂ tr ps s))
   goes-judge α β δ₁ δ₂ tr ps s is ready =
       qed W ((‵ (flft (p .κ₀) (p .q₀)) ⊛ (‵ (flft (α ∷ []) fullShare) ⊛ ‵ (flft (β ∷ []) fullShare))) ∷ ‵ (Own p) ∷ (‵ (OwnT p (α ∷ []) δ₁ tr) ⊛ ‵ (OwnP p (β ∷ []) δ₂ ps)) ∷ []) ∵ says ! ready $

@@ -47,7 +47,7 @@ use Rattle.meaning.specs.Limits.{mostNested}
 use Rattle.day.specs.declared.open.Open.{Open}
 use Rattle.day.specs.declared.sweep.State.{State}
 use Rattle.day.specs.Entries.{entry}
-use Rattle.day.specs.Turns.{Fresh, Turned}
+use Rattle.day.specs.Sweep.{Fresh, Turned}
 use Rattle.day.proofs.Rounds.{reread, round-begin}
 use Rattle.day.proofs.open.Open as T
 use Rattle.day.proofs.open.Open.Laws as T′

@@ -16,8 +16,8 @@ use Rattle.day.specs.declared.sweep.State.{State}
 use Rattle.day.specs.Parts.{Ordered}
 
 -- The label at x lies inside the one at y.
-abbrev pub Within : Lists → Place → Place → Type 0
-Within t x y = Inside (labelOf t x) (labelOf t y)
+abbrev pub LiesIn : Lists → Place → Place → Type 0
+LiesIn t x y = Inside (labelOf t x) (labelOf t y)
 
 -- The label at x ends before the one at y starts.
 abbrev pub Before : Lists → Place → Place → Type 0
@@ -25,7 +25,7 @@ Before t x y = endOf t x < startOf t y
 
 -- Two labels are nested or apart; where start < end in each, these are four different numbers.
 abbrev pub Fine : Lists → Place → Place → Type 0
-Fine t x y = Within t x y ⊎ Within t y x ⊎ Before t x y ⊎ Before t y x
+Fine t x y = LiesIn t x y ⊎ LiesIn t y x ⊎ Before t x y ⊎ Before t y x
 
 -- The sweep so far, with the lists' cursors and the open records, of which number k stands at `stack k`.
 pub record Swept (t : Lists) (pos : ℕ → ℕ) (stack : ℕ → Place) (depth : ℕ) : Type 0 where
@@ -36,7 +36,7 @@ pub record Swept (t : Lists) (pos : ℕ → ℕ) (stack : ℕ → Place) (depth 
   -- The open records are seen.
   pub held : (k : ℕ) → k < depth → Seen t pos (stack k)
   -- Each open record lies inside those before it.
-  pub nest : (j k : ℕ) → j < k → k < depth → Within t (stack k) (stack j)
+  pub nest : (j k : ℕ) → j < k → k < depth → LiesIn t (stack k) (stack j)
   -- What is seen is open, or ends before all that waits starts.
   pub closed : (x y : Place) → Seen t pos x → Waits t pos y → ((k : ℕ) × (k < depth) × (stack k ≡ x)) ⊎ Before t x y
 
@@ -49,8 +49,8 @@ abbrev pub Closes : ℕ → Open → ℕ → Type 0
 Closes depth inner start = (0 < depth) × (inner .end < start)
 
 -- A record that starts before the innermost open one has ended is refused: it starts with it, does not end before it, or is one too many.
-abbrev pub Refused : ℕ → Open → ℕ → ℕ → Type 0
-Refused depth inner start end = (0 < depth) × ((inner .start ≡ start) ⊎ (inner .end ≤ end) ⊎ (depth ≡ mostNested))
+abbrev pub Refuses : ℕ → Open → ℕ → ℕ → Type 0
+Refuses depth inner start end = (0 < depth) × ((inner .start ≡ start) ⊎ (inner .end ≤ end) ⊎ (depth ≡ mostNested))
 
 -- `inner` has the numbers of the label at a place, and its list.
 pub record Same (t : Lists) (x : Place) (inner : Open) : Type 0 where
@@ -67,7 +67,7 @@ abbrev pub Topmost : State → Type 0
 Topmost s = (k : ℕ) → s .depth ≡ suc k → s .at ≡ k
 
 -- What a turn may count on: a walk over all labels, with the number that names what comes next, and not more open records than there is room for.
-pub record Ready (b : List ℕ) (m : ℕ) (tree places : List ℕ) (depth least : ℕ) : Type 0 where
+pub record BeforeTurn (b : List ℕ) (m : ℕ) (tree places : List ℕ) (depth least : ℕ) : Type 0 where
   pub walk : Standing b m tree places
   pub names : Names (listsOf b) (cursor b places) least
   pub ordered : Ordered (listsOf b)
@@ -81,14 +81,14 @@ pub record Fresh (b : List ℕ) (m : ℕ) (tree places : List ℕ) (s : State) :
   pub none-open : s .depth ≡ 0
 
 -- A turn that closes the innermost record.
-pub record Closed (t : Lists) (pos : ℕ → ℕ) (stack : ℕ → Place) (s s′ : State) : Type 0 where
+pub record ClosesOne (t : Lists) (pos : ℕ → ℕ) (stack : ℕ → Place) (s s′ : State) : Type 0 where
   pub one : s .depth ≡ suc (s′ .depth)
   pub top : Topmost s′
   pub swept : Swept t pos stack (s′ .depth)
   pub least : s′ .least ≡ s .least
 
 -- A turn that opens the label next in a list.
-pub record Opened (t : Lists) (pos pos′ : ℕ → ℕ) (stack : ℕ → Place) (s s′ : State) : Type 0 where
+pub record OpensOne (t : Lists) (pos pos′ : ℕ → ℕ) (stack : ℕ → Place) (s s′ : State) : Type 0 where
   pub list : ℕ
   pub holds : Holds t (next pos list)
   pub moved : Moved pos pos′ list
@@ -101,8 +101,8 @@ pub record Opened (t : Lists) (pos pos′ : ℕ → ℕ) (stack : ℕ → Place)
 -- What a turn makes of the state: the sweep is over and says whether something is wrong, or a record is closed, or one is opened.
 pub data Judged (b : List ℕ) (m : ℕ) (tree places : List ℕ) (stack : ℕ → Place) (s : State) (tree′ places′ : List ℕ) (s′ : State) : Type 0 where
   over : s′ .going ≡ false → s′ .put ≡ false → Decides (Tangled (listsOf b)) (s′ .wrong) → Judged b m tree places stack s tree′ places′ s′
-  closing : s′ .going ≡ true → s′ .put ≡ false → tree′ ≡ tree → places′ ≡ places → Closed (listsOf b) (cursor b places) stack s s′ → Judged b m tree places stack s tree′ places′ s′
-  opening : s′ .going ≡ true → s′ .put ≡ true → Ready b m tree′ places′ (s′ .depth) (s′ .least) → Opened (listsOf b) (cursor b places) (cursor b places′) stack s s′ → Judged b m tree places stack s tree′ places′ s′
+  closing : s′ .going ≡ true → s′ .put ≡ false → tree′ ≡ tree → places′ ≡ places → ClosesOne (listsOf b) (cursor b places) stack s s′ → Judged b m tree places stack s tree′ places′ s′
+  opening : s′ .going ≡ true → s′ .put ≡ true → BeforeTurn b m tree′ places′ (s′ .depth) (s′ .least) → OpensOne (listsOf b) (cursor b places) (cursor b places′) stack s s′ → Judged b m tree places stack s tree′ places′ s′
 
 -- The contract of a turn: whichever records the state's open ones are, it judges rightly.
 abbrev pub Turned : List ℕ → ℕ → List ℕ → List ℕ → State → List ℕ → List ℕ → State → Type 0

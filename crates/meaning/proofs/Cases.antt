@@ -1,8 +1,14 @@
--- What is said of a case of document 01's table.
+-- What is said of a case of document 01's table. The marked cases are in Stars; the other files hold what these leave open.
+pub mod Bytes
+pub mod Alphabet
+pub mod Reading
 pub mod SmallDay
 pub mod Test
 pub mod Stars
 pub mod Index
+pub mod Call
+pub mod Calls
+pub mod Lines
 use Prim.Native.Nat.{ℕ, _≤_}
 use mathlib.Core.Path.{_≡_}
 use mathlib.Core.Bool.{Bool}

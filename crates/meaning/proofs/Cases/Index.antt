@@ -4,7 +4,7 @@ use Prim.Native.Nat.{ℕ, zero, suc, _+_, _-_}
 use mathlib.Core.List.{List, [], _∷_, _++_}
 use Rattle.meaning.proofs.Cases.{Case, check, All}
 use Rattle.meaning.proofs.Cases.SmallDay.{bytes, label, row, head}
-use Rattle.meaning.proofs.Cases.Test.{allB, all-right}
+use Rattle.meaning.proofs.Cases.Test.{rightB, all-right}
 
 -- n labels from start s on, of which each but the first lies inside the one before, the first of them s:e.
 unfoldable pub nest : ℕ → ℕ → ℕ → List ℕ
@@ -12,6 +12,8 @@ nest zero s e = []
 nest (suc n) s e = label s e ++ nest n (s + 1) (e - 1)
 
 -- The bytes 0 0 2 0, the bytes 1 0 1 0, 3 bytes; 64 nested and 65 nested; the numbers 0 and 4,294,967,295; a list without labels.
+-- Then the version 256; labels over 2^24, in bytes: 65,536:16,777,216 and the same numbers the other way round; 1,048,576 labels, which the
+-- length does not have, and one more; rows that ascend, are equal and descend.
 unfoldable pub others : List Case
 unfolding bytes nest
 others =
@@ -29,9 +31,25 @@ others =
     ∷
     check (head 1 ++ row "call" 28 0) 0
     ∷
+    check (0 ∷ 0 ∷ 0 ∷ 1 ∷ []) 2
+    ∷
+    check (head 1 ++ row "call" 28 1 ++ 0 ∷ 0 ∷ 1 ∷ 0 ∷ 0 ∷ 0 ∷ 0 ∷ 1 ∷ []) 0
+    ∷
+    check (head 1 ++ row "call" 28 1 ++ 0 ∷ 0 ∷ 0 ∷ 1 ∷ 0 ∷ 0 ∷ 1 ∷ 0 ∷ []) 5
+    ∷
+    check (head 1 ++ row "call" 28 1_048_576) 4
+    ∷
+    check (head 1 ++ row "call" 28 1_048_577) 3
+    ∷
+    check (head 2 ++ row "board" 52 0 ++ row "call" 52 0) 0
+    ∷
+    check (head 2 ++ row "call" 52 0 ++ row "call" 52 0) 3
+    ∷
+    check (head 2 ++ row "call" 52 0 ++ row "board" 52 0) 3
+    ∷
     []
 
 -- Each of them is right.
 pub others-right : All others
-unfolding others allB
-others-right = all-right others tt
+unfolding others rightB
+others-right = all-right others (tt, (tt, (tt, (tt, (tt, (tt, (tt, (tt, (tt, (tt, (tt, (tt, (tt, (tt, (tt, tt)))))))))))))))

@@ -5,7 +5,7 @@ use mathlib.Core.List.{List, [], _∷_, _++_}
 use Rattle.meaning.specs.Notation.{Path, path, After, finish, bracket, next}
 use Rattle.meaning.proofs.Cases.SmallDay.{bytes, label, row, head, smallDay}
 use Rattle.meaning.proofs.Cases.{Room, ample, just, Case, ask, check, empty, All}
-use Rattle.meaning.proofs.Cases.Test.{allB, all-right}
+use Rattle.meaning.proofs.Cases.Test.{rightB, all-right}
 
 -- The steps of the questions' trees, each before what follows its name.
 abbrev call : After → Path
@@ -62,5 +62,5 @@ stars =
 
 -- Every marked case is right: the outcomes that the table says satisfy the promises of the three calls.
 pub stars-right : All stars
-unfolding stars allB
-stars-right = all-right stars tt
+unfolding stars rightB
+stars-right = all-right stars (tt, (tt, (tt, (tt, (tt, (tt, (tt, (tt, (tt, (tt, (tt, (tt, (tt, (tt, tt))))))))))))))

@@ -8,7 +8,6 @@ use mathlib.Core.List.{List, [], _∷_, _++_}
 use lib.Dec.{T, leb, ltb, eqb}
 use lib.ListN.{length, take, drop, getD}
 use lib.Seq.{length-take-le}
-use mir.Facts.{and-yes}
 use Rattle.meaning.specs.Answers.{Decides, holds, fails}
 use Rattle.meaning.specs.declared.Page.{Page}
 use Rattle.meaning.specs.Limits.{mostText, mostSteps, mostDepth}
@@ -178,8 +177,13 @@ module _ (c : Asking) (e : checkOf (c .index) ≡ 0) (w : Written c) (l : Listed
     shown = λ entry fits. page clear follows (page-of (Evidence a) (joined (c .rows)) (each-rows a (c .positions) (c .rows) (l .1 .1 .1)) (evidenceRoom a (length entry)) entry fits);
   }
 
--- The test of a case.
+-- A question that passes its test is right.
+pub ask-sound : (c : Asking) → T (askB c) → AskRight c
+ask-sound c t = let f = passed (ask-decides c) t in ask-right c (f .0) (f .1 .0) (f .1 .1)
+
+-- The test of a case. Whoever unfolds it unfolds all that it computes with.
 unfoldable pub rightB : Case → Bool
+unfolding checkOf u32At labels listAmong initial further allFurther short isName same write steps depth list lastStep asked each some choose edgeB hungB pickB somePick returnedB undercutB evidenceB filtered recordsOf namedB eachB listedB writtenB askB
 rightB (ask c) = askB c
 rightB (check b n) = eqb (checkOf b) n
 rightB (empty b) = eqb (checkOf b) 0 && eqb (total b) 0
@@ -187,20 +191,18 @@ rightB (empty b) = eqb (checkOf b) 0 && eqb (total b) 0
 -- A case that passes its test is right.
 pub right : (c : Case) → T (rightB c) → Right c
 unfolding rightB
-right (ask c) t = let f = passed (ask-decides c) t in ask-right c (f .0) (f .1 .0) (f .1 .1)
+right (ask c) t = ask-sound c t
 right (check b n) t = subst (Checked b) (passed (eq-decides (checkOf b) n) t) (check-agrees b)
 right (empty b) t =
     let f = passed (and-decides (eq-decides (checkOf b) 0) (eq-decides (total b) 0)) t in
     (subst (Checked b) (f .0) (check-agrees b), f .1)
 
--- The test of a table. Whoever unfolds it unfolds all that it computes with.
-unfoldable pub allB : List Case → Bool
-unfolding checkOf u32At labels listAmong initial further allFurther short isName same write steps depth list lastStep asked each some choose edgeB hungB pickB somePick returnedB undercutB evidenceB filtered recordsOf namedB eachB listedB writtenB askB rightB
-allB [] = true
-allB (c ∷ cs) = rightB c && allB cs
+-- Every case of a table passes. Each is a fact of its own, so that one which fails is named.
+abbrev pub Passes : List Case → Type 0
+Passes [] = Unit
+Passes (c ∷ cs) = T (rightB c) × Passes cs
 
--- A table that passes its test is right, case by case.
-pub all-right : (cs : List Case) → T (allB cs) → All cs
-unfolding allB
+-- A table that passes is right, case by case.
+pub all-right : (cs : List Case) → Passes cs → All cs
 all-right [] t = tt
-all-right (c ∷ cs) t = let b = and-yes (rightB c) (allB cs) t in (right c (b .0), all-right cs (b .1))
+all-right (c ∷ cs) t = (right c (t .0), all-right cs (t .1))

@@ -35,7 +35,7 @@ paged-fixed {a} {Row} {place} {room} {entry} {exit} {exit′} {r} {r′} one p q
     all = records-one a place (p .all) (q .all) (p .records) (q .records)
 
     rows : r .rows ≡ r′ .rows
-    rows = p .rows ∙ ap (λ (xs : List ℕ). min room (length xs)) all ∙ sym (q .rows)
+    rows = omega (arith, p .rows, q .rows, ap length all)
 
     more : r .more ≡ r′ .more
     more = cc (p .more, q .more, rows, all)
@@ -48,6 +48,10 @@ paged-fixed {a} {Row} {place} {room} {entry} {exit} {exit′} {r} {r′} one p q
 
     buffer : exit ≡ exit′
     buffer = p .buffer ∙ ap (λ (ws : List ℕ). ws ++ drop (length ws) entry) written ∙ sym (q .buffer)
+
+-- What a refusal is, in every field: its number, 0 rows, no further record, next place 0, and the buffer as it was.
+pub refusal-is : (n : ℕ) (entry : List ℕ) → Refused n entry entry (record { refusal = n; rows = 0; more = false; next = 0 })
+refusal-is n entry = record { buffer = refl; refusal = refl; rows = refl; more = refl; next = refl }
 
 -- A refusal fixes its result and the whole buffer.
 pub refused-fixed : {n : ℕ} {entry exit exit′ : List ℕ} {r r′ : Page} → Refused n entry exit r → Refused n entry exit′ r′ → (r ≡ r′) × (exit ≡ exit′)

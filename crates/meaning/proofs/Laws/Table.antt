@@ -91,6 +91,11 @@ verdict-one t m n (given g) (given h) = given-one t m n g h
 pub checked-fixed : (b : List ℕ) (m n : ℕ) → Checked b m → Checked b n → m ≡ n
 checked-fixed b = verdict-one (checkTable b)
 
+-- Where a table gives a number above 0, it is that of its first reason that applies.
+pub verdict-given : (t : Table) (n : ℕ) → 0 < n → Verdict t n → Given t n
+verdict-given t n l (clear c) = absurd (omega arith)
+verdict-given t n l (given g) = g
+
 -- Where a table whose numbers are above 0 gives 0, no reason of it applies.
 pub zero-clear : (t : Table) → Rising 0 t → (n : ℕ) → n ≡ 0 → Verdict t n → Clear t
 zero-clear t rising n e (clear c) = c

@@ -6,11 +6,13 @@ use mathlib.Core.Path.{_≡_, refl, sym, ap, subst, subst₂, _∙_}
 use mathlib.Core.Logic.{_⊎_, inl, inr, _≢_, ⊎-elim}
 use mathlib.Core.Bool.{Bool, true, false, cond}
 use mathlib.Core.List.{List}
+use lib.ListN.{length}
 use Rattle.meaning.specs.declared.Label.{Label}
 use Rattle.meaning.specs.declared.Body.{Body}
+use Rattle.meaning.specs.Limits.{mostLabels}
 use Rattle.meaning.specs.Labels.{Inside, Apart, Lists, Place, labelOf, Holds, LawfulLists}
 use Rattle.meaning.specs.Names.{filled, same}
-use Rattle.meaning.specs.Day.{tags, offset, count, labels, total, labelAt, listsOf, nameField, listAmong, listOf, TooShort, OtherVersion, WrongContents, WrongLength}
+use Rattle.meaning.specs.Day.{tags, rowAt, offset, count, labels, total, labelAt, listsOf, nameField, listAmong, listOf, RowRight, TooShort, OtherVersion, WrongContents, WrongLength}
 use Rattle.meaning.specs.Notation.{Path, from}
 use Rattle.meaning.specs.Picks.{Asked, asked, stepAt}
 use Rattle.meaning.specs.Refusals.{Lawful}
@@ -50,6 +52,14 @@ count-within b (suc m) r l =
 -- No list has more labels than the whole index.
 pub list-small : (b n : List ℕ) → listOf b n .count ≤ total b
 list-small b n = ⊎-elim (λ h. subst (λ (l : Body). l .count ≤ total b) (sym (h .2)) (count-within b (tags b) (h .0) (h .1))) (λ e. omega (arith, e)) (list-of-row b n)
+
+-- Over 256 tags are refused, and up to 256 are not refused for being so many.
+pub tags-over : (b : List ℕ) → 256 < tags b → WrongContents b
+tags-over b h = inl (omega arith)
+
+pub tags-within : (b : List ℕ) → tags b ≤ 256 → WrongContents b → (length b < rowAt (tags b)) ⊎ ((r : ℕ) × (r < tags b) × (RowRight b r → ⊥)) ⊎ (mostLabels < total b)
+tags-within b h (inl many) = absurd (omega arith)
+tags-within b h (inr other) = other
 
 -- What picks rest on: a step hangs from an earlier one, the returned step is one, the records of each step are ordered and ascend by
 -- start, and the records of two steps are the same one, or one lies inside the other, or they are apart.

@@ -5,7 +5,7 @@ use mathlib.Core.Path.{_≡_, refl, sym, ap}
 use mathlib.Core.Logic.{_⊎_, inl, inr, _≢_, ⊎-elim}
 use Rattle.meaning.specs.declared.Label.{Label}
 use Rattle.meaning.specs.Limits.{mostNested}
-use Rattle.meaning.specs.Labels.{Inside, Apart, Different, Lists, Place, labelOf, Holds, Nested, LawfulLists, Unordered, Share, Cross, Tangled}
+use Rattle.meaning.specs.Labels.{Inside, Apart, Different, Lists, Place, labelOf, Holds, Nested, LawfulLists, Unordered, Share, Cross, Clash, Tangled}
 use Rattle.meaning.proofs.Decide.{or-not, le-decides, lt-decides}
 
 -- A label that lies inside another starts at another number, and ends at another.
@@ -19,6 +19,14 @@ inside-proper a h = omega (arith, h .after)
 -- What lies inside a label that lies inside a third lies inside the third.
 pub inside-further : (a b c : Label) → Inside a b → Inside b c → Inside a c
 inside-further a b c h k = record { after = omega (arith, h .after, k .after); before = omega (arith, h .before, k .before) }
+
+-- 65 nested labels are refused, and no fewer are refused for being so many.
+pub nested-over : (t : Lists) (c : ℕ → Place) → Nested t 65 c → Tangled t
+nested-over t c n = inr (c, n)
+
+pub nested-within : (t : Lists) → Tangled t → Clash t ⊎ ((c : ℕ → Place) × Nested t 65 c)
+nested-within t (inl w) = inl w
+nested-within t (inr n) = inr n
 
 -- In lawful lists refusals 5 and 6 find nothing.
 module _ (t : Lists) (l : LawfulLists t) where

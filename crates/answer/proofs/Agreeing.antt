@@ -10,7 +10,7 @@ use Rattle.meaning.specs.declared.Page.{Page}
 use Rattle.meaning.specs.Notation.{Hook, nothing, from}
 use Rattle.meaning.specs.Picks.{Asked, Edge, Hung, Pick, Returned, Evidence, at}
 use Rattle.meaning.specs.Pages.{Records, Rows, none, row, Paged}
-use Rattle.meaning.proofs.Laws.Day.{Fit}
+use Rattle.meaning.specs.Fit.{Fit}
 
 -- They agree: the steps, the returned one, and at each step its hook and its records.
 pub record Agree (a b : Asked) : Type 0 where

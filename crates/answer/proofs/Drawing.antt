@@ -17,7 +17,8 @@ use Rattle.meaning.specs.Notation.{Path, Hook, nothing, from, steps, returnedSt
 use Rattle.meaning.specs.Picks.{Asked, asked, stepAt, at}
 use Rattle.meaning.specs.Refusals.{Lawful}
 use Rattle.meaning.proofs.Decide.{or-not, lt-decides}
-use Rattle.meaning.proofs.Laws.Day.{Fit, lawful-fit, list-of-row, list-small}
+use Rattle.meaning.specs.Fit.{Fit}
+use Rattle.meaning.proofs.Laws.Day.{lawful-fit, list-of-row, list-small}
 use Rattle.meaning.proofs.Laws.Notation.{one-tree}
 use Rattle.meaning.proofs.Laws.Step.{hook-upward}
 use Rattle.meaning.proofs.Laws.Promise.{lawful-small}

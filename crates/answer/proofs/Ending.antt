@@ -11,7 +11,8 @@ use Rattle.meaning.specs.Notation.{Path, steps}
 use Rattle.meaning.specs.Picks.{Asked, Evidence, asked, at}
 use Rattle.meaning.specs.Pages.{Paged, Position, answerRoom, evidenceRoom}
 use Rattle.meaning.specs.Refusals.{Lawful}
-use Rattle.meaning.proofs.Laws.Day.{Fit, lawful-fit}
+use Rattle.meaning.specs.Fit.{Fit}
+use Rattle.meaning.proofs.Laws.Day.{lawful-fit}
 use Rattle.answer.specs.Plan.{planOf, Drawn}
 use Rattle.answer.specs.Rows.{PartOf}
 use Rattle.answer.proofs.Agreeing.{Agree, agree-back, evidence-agree, paged-agree}

@@ -14,7 +14,7 @@ use Rattle.meaning.specs.Labels.{Inside, Apart}
 use Rattle.meaning.specs.Notation.{Hook, nothing, from}
 use Rattle.meaning.specs.Picks.{Asked, Edge, Hung, Pick, at}
 use Rattle.meaning.proofs.Decide.{at-least}
-use Rattle.meaning.proofs.Laws.Day.{Fit}
+use Rattle.meaning.specs.Fit.{Fit}
 use Rattle.meaning.proofs.Laws.Pick.{earlier-starts}
 use Rattle.answer.specs.Cursors.{AtMost, LeastPick, NoPick, Touches, Held}
 

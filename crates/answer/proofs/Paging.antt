@@ -14,7 +14,7 @@ use lib.Seq.{getD-take, length-take-le, getD-set-same, getD-set-other, take-appe
 use Rattle.meaning.specs.declared.Page.{Page}
 use Rattle.meaning.specs.Picks.{Asked, Pick, Returned, Evidence, at}
 use Rattle.meaning.specs.Pages.{Records, Rows, none, row, Paged}
-use Rattle.meaning.proofs.Laws.Day.{Fit}
+use Rattle.meaning.specs.Fit.{Fit}
 use Rattle.meaning.proofs.Laws.Pick.{same-pick}
 use Rattle.meaning.proofs.Laws.Record.{recordsOf, records-of}
 use Rattle.answer.specs.Cursors.{AtMost, LeastPick, NoPick, Settled, found, ended, Held}

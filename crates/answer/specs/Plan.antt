@@ -10,7 +10,7 @@ use Rattle.meaning.specs.Day.{labelAt, listOf}
 use Rattle.meaning.specs.Notation.{Path, Follows, Hook, nothing, from, steps, returnedStep}
 use Rattle.meaning.specs.Picks.{Asked, stepAt, at}
 use Rattle.meaning.specs.declared.Question.{Question}
-use Rattle.meaning.proofs.Laws.Day.{Fit}
+use Rattle.meaning.specs.Fit.{Fit}
 use Rattle.question.specs.Stored.{hookNumber, questionOf}
 
 -- What a step hangs from, by its number: 255 is nothing.

@@ -10,4 +10,5 @@ pub mod Pages
 pub mod Refusals
 pub mod Promises
 pub mod Answers
+pub mod Fit
 pub mod Printing

@@ -24,7 +24,8 @@ use Rattle.meaning.proofs.Laws.Same.{same-decides}
 use Rattle.meaning.proofs.Decide.Notation.{namedB, named-decides}
 use Rattle.meaning.proofs.Laws.Notation.{one-tree}
 use Rattle.meaning.proofs.Laws.Table.{checked-lawful, clear-both}
-use Rattle.meaning.proofs.Laws.Day.{Fit, lawful-fit}
+use Rattle.meaning.specs.Fit.{Fit}
+use Rattle.meaning.proofs.Laws.Day.{lawful-fit}
 use Rattle.meaning.proofs.Decide.Day.{checkOf, check-agrees}
 use Rattle.meaning.proofs.Decide.Picks.{choose, edgeB, hungB, pickB, somePick, returnedB, undercutB, evidenceB, evidence-decides}
 use Rattle.meaning.proofs.Laws.Record.{filtered, recordsOf, records-of}

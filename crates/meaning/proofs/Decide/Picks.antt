@@ -13,7 +13,7 @@ use Rattle.meaning.specs.Notation.{Hook, nothing, from}
 use Rattle.meaning.specs.Picks.{Asked, Edge, Hung, Pick, Returned, Evidence, at}
 use Rattle.meaning.proofs.Decide.{decides-as, or-not, le-decides, both-decides, lt-decides, eq-decides, and-decides, not-decides, each, each-decides, some, some-decides}
 use Rattle.meaning.proofs.Decide.Nesting.{insideB, inside-decides}
-use Rattle.meaning.proofs.Laws.Day.{Fit}
+use Rattle.meaning.specs.Fit.{Fit}
 use Rattle.meaning.proofs.Laws.Pick.{same-pick}
 
 -- The first n values of a function.

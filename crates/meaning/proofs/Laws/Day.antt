@@ -1,4 +1,4 @@
--- From a lawful index to what picks rest on: facts about the lists of labels of a question's steps, in which no byte is named.
+-- From a lawful index to what picks rest on (`specs/Fit`): facts about the lists of labels of a question's steps, in which no byte is named.
 use Prim.Native.Nat.{ℕ, zero, suc, _+_, _≤_, _<_}
 use native.Mathlib.Nat.{eq-or-lt-of-le, le-of-suc-le-suc}
 use native.Mathlib.Omega.{arith}
@@ -13,8 +13,9 @@ use Rattle.meaning.specs.Limits.{mostLabels}
 use Rattle.meaning.specs.Labels.{Inside, Apart, Lists, Place, labelOf, Holds, LawfulLists}
 use Rattle.meaning.specs.Names.{filled, same}
 use Rattle.meaning.specs.Day.{tags, rowAt, offset, count, labels, total, labelAt, listsOf, nameField, listAmong, listOf, RowRight, TooShort, OtherVersion, WrongContents, WrongLength}
-use Rattle.meaning.specs.Notation.{Path, from}
-use Rattle.meaning.specs.Picks.{Asked, asked, stepAt}
+use Rattle.meaning.specs.Notation.{Path}
+use Rattle.meaning.specs.Picks.{asked, stepAt}
+use Rattle.meaning.specs.Fit.{Fit}
 use Rattle.meaning.specs.Refusals.{Lawful}
 use Rattle.meaning.proofs.Decide.{or-not, eq-decides}
 use Rattle.meaning.proofs.Laws.Label.{lawful-lists, lawful-ordered, lawful-untangled}
@@ -60,16 +61,6 @@ tags-over b h = inl (omega arith)
 pub tags-within : (b : List ℕ) → tags b ≤ 256 → WrongContents b → (length b < rowAt (tags b)) ⊎ ((r : ℕ) × (r < tags b) × (RowRight b r → ⊥)) ⊎ (mostLabels < total b)
 tags-within b h (inl many) = absurd (omega arith)
 tags-within b h (inr other) = other
-
--- What picks rest on: a step hangs from an earlier one, the returned step is one, the records of each step are ordered and ascend by
--- start, and the records of two steps are the same one, or one lies inside the other, or they are apart.
-pub record Fit (a : Asked) : Type 0 where
-  pub returned-lt : a .returned < a .steps
-  pub upward : (s u : ℕ) → s < a .steps → a .hook s ≡ from u → u < s
-  pub ordered : (s i : ℕ) → i < a .count s → a .label s i .start < a .label s i .end
-  pub ascending : (s i j : ℕ) → i < j → j < a .count s → a .label s i .start < a .label s j .start
-  pub laminar : (s i u j : ℕ) → i < a .count s → j < a .count u
-      → (a .label s i ≡ a .label u j) ⊎ Inside (a .label s i) (a .label u j) ⊎ Inside (a .label u j) (a .label s i) ⊎ Apart (a .label s i) (a .label u j)
 
 -- Label i of a list that is a row's, as a label of the day.
 module _ (b : List ℕ) where

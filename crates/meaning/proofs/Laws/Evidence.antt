@@ -9,7 +9,7 @@ use lib.ListN.{length}
 use lib.Seq.{ext-getD}
 use Rattle.meaning.specs.Picks.{Asked, Pick, Returned, Evidence, at}
 use Rattle.meaning.proofs.Decide.{Least, least-of}
-use Rattle.meaning.proofs.Laws.Day.{Fit}
+use Rattle.meaning.specs.Fit.{Fit}
 use Rattle.meaning.proofs.Laws.Pick.{earlier, earlier-pick, same-pick}
 use Rattle.meaning.proofs.Decide.Picks.{rowOf, row-long, row-at, through-decides}
 

@@ -8,7 +8,7 @@ use Rattle.meaning.specs.Labels.{Inside, Apart}
 use Rattle.meaning.specs.Notation.{Hook, nothing, from}
 use Rattle.meaning.specs.Picks.{Asked, Edge, Hung, Pick}
 use Rattle.meaning.proofs.Decide.{or-not, le-decides}
-use Rattle.meaning.proofs.Laws.Day.{Fit}
+use Rattle.meaning.specs.Fit.{Fit}
 
 -- At every step the earlier of two records.
 abbrev pub earlier : (ℕ → ℕ) → (ℕ → ℕ) → ℕ → ℕ

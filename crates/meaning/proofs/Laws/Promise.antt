@@ -17,7 +17,8 @@ use Rattle.meaning.specs.Promises.{Outcome, refused, page, Answered, Sho
 use Rattle.meaning.proofs.Decide.{or-not, le-decides}
 use Rattle.meaning.proofs.Laws.Notation.{one-tree}
 use Rattle.meaning.proofs.Laws.Table.{given-one, clear-not-given, clear-first}
-use Rattle.meaning.proofs.Laws.Day.{Fit, lawful-fit, list-small}
+use Rattle.meaning.specs.Fit.{Fit}
+use Rattle.meaning.proofs.Laws.Day.{lawful-fit, list-small}
 use Rattle.meaning.proofs.Laws.Evidence.{evidence-one}
 use Rattle.meaning.proofs.Laws.Record.{ascending-few}
 use Rattle.meaning.proofs.Laws.Page.{One, paged-fixed, refused-fixed}

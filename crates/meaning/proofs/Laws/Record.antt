@@ -10,7 +10,7 @@ use lib.ListN.{length, getD}
 use Rattle.meaning.specs.Answers.{Decides, holds, fails}
 use Rattle.meaning.specs.Picks.{Asked, Returned}
 use Rattle.meaning.specs.Pages.{In, Ascending, Records}
-use Rattle.meaning.proofs.Laws.Day.{Fit}
+use Rattle.meaning.specs.Fit.{Fit}
 use Rattle.meaning.proofs.Decide.Picks.{returnedB, returned-decides}
 
 -- Two lists that ascend and hold the same numbers are equal.

@@ -1,7 +1,7 @@
 -- What is said of a case of document 01's table. The marked cases are in Stars; the other files hold what these leave open.
 pub mod Bytes
 pub mod Alphabet
-pub mod Reading
+pub mod Brackets
 pub mod SmallDay
 pub mod Test
 pub mod Stars

@@ -2,8 +2,9 @@
 -- day to the paper as the marked ones do.
 use Prim.Native.Nat.{ℕ, zero, suc, _+_, _-_}
 use mathlib.Core.List.{List, [], _∷_, _++_}
+use Rattle.meaning.specs.Names.{filled}
 use Rattle.meaning.proofs.Cases.{Case, check, All}
-use Rattle.meaning.proofs.Cases.SmallDay.{bytes, label, row, head}
+use Rattle.meaning.proofs.Cases.SmallDay.{bytes, word, label, row, head}
 use Rattle.meaning.proofs.Cases.Test.{rightB, all-right}
 
 -- n labels from start s on, of which each but the first lies inside the one before, the first of them s:e.
@@ -13,7 +14,7 @@ nest (suc n) s e = label s e ++ nest n (s + 1) (e - 1)
 
 -- The bytes 0 0 2 0, the bytes 1 0 1 0, 3 bytes; 64 nested and 65 nested; the numbers 0 and 4,294,967,295; a list without labels.
 -- Then the version 256; labels over 2^24, in bytes: 65,536:16,777,216 and the same numbers the other way round; 1,048,576 labels, which the
--- length does not have, and one more; rows that ascend, are equal and descend.
+-- length does not have, and one more; a row cut short behind its offset; rows that ascend, are equal and descend.
 unfoldable pub others : List Case
 unfolding bytes nest
 others =
@@ -41,6 +42,8 @@ others =
     ∷
     check (head 1 ++ row "call" 28 1_048_577) 3
     ∷
+    check (head 1 ++ filled (bytes "call") ++ word 28) 3
+    ∷
     check (head 2 ++ row "board" 52 0 ++ row "call" 52 0) 0
     ∷
     check (head 2 ++ row "call" 52 0 ++ row "call" 52 0) 3
@@ -52,4 +55,4 @@ others =
 -- Each of them is right.
 pub others-right : All others
 unfolding others rightB
-others-right = all-right others (tt, (tt, (tt, (tt, (tt, (tt, (tt, (tt, (tt, (tt, (tt, (tt, (tt, (tt, (tt, tt)))))))))))))))
+others-right = all-right others (tt, (tt, (tt, (tt, (tt, (tt, (tt, (tt, (tt, (tt, (tt, (tt, (tt, (tt, (tt, (tt, tt))))))))))))))))

@@ -1,12 +1,13 @@
--- Names in a text: where a name ends is seen from what follows it, so that a text begins with one name only.
-use Prim.Native.Nat.{ℕ, _≤_}
+-- Names in a text: where a name ends is seen from what follows it, so that a text begins with one name only. And which of two comes first.
+use Prim.Native.Nat.{ℕ, _≤_, _<_}
+use native.Mathlib.Omega.{arith}
 use mathlib.Core.Path.{_≡_, refl, sym, _∙_, subst}
 use mathlib.Core.Bool.{true, false, _&&_, true≢false, false≢true, and-eq-true-iff}
 use mathlib.Core.List.{List, [], _∷_, _++_}
 use lib.ListN.{length}
 use borrow.Author.Tests.{leb-true}
 use Rattle.meaning.specs.Limits.{mostName}
-use Rattle.meaning.specs.Names.{initial, further, allFurther, short, isName, Name}
+use Rattle.meaning.specs.Names.{initial, further, allFurther, short, isName, Name, Sooner}
 
 -- The text does not go on with a character of a name: it is at its end, or its first byte may not stand in a name.
 abbrev pub NoFurther : List ℕ → Type 0
@@ -34,6 +35,14 @@ name-short [] h = absurd (false≢true h)
 name-short (c ∷ cs) h =
     let a = and-eq-true-iff (initial c) (allFurther cs && short (c ∷ cs)) .0 h in
     leb-true (length (c ∷ cs)) mostName (and-eq-true-iff (allFurther cs) (short (c ∷ cs)) .0 (a .1) .1)
+
+-- No name comes before itself, so that rows which ascend by name have different names.
+pub sooner-proper : (x : List ℕ) → Sooner x x → ⊥
+sooner-proper x s = omega (arith, s .less)
+
+-- Where two lists differ in their first bytes, the one with the lesser byte comes first.
+pub sooner-first : (c d : ℕ) (x y : List ℕ) → c < d → Sooner (c ∷ x) (d ∷ y)
+sooner-first c d x y l = record { place = 0; same = λ i h. absurd (omega arith); less = omega arith }
 
 -- A text that does not go on with such a character does not begin with some of them.
 further-stops : (c : ℕ) (cs r s : List ℕ) → allFurther (c ∷ cs) ≡ true → NoFurther r → r ≡ c ∷ cs ++ s → ⊥

@@ -1,4 +1,4 @@
--- What a question's tree says: how many steps it has, how deep its brackets go, what each step hangs from, and which one is returned.
+-- What brackets in a question say: what each step hangs from, which step is returned, how many there are, and how deep the brackets go.
 use Prim.Native.Nat.{ℕ}
 use mathlib.Core.Path.{_≡_, refl}
 use mathlib.Core.List.{List, [], _∷_}

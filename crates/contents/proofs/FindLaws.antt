@@ -6,11 +6,11 @@ use mathlib.Core.Bool.{Bool, true, false, cond}
 use mathlib.Core.List.{List}
 use Rattle.meaning.specs.declared.Body.{Body}
 use Rattle.meaning.specs.Names.{filled, same}
-use Rattle.meaning.specs.Day.{tags, nameField, listAmong, listOf}
+use Rattle.meaning.specs.Day.{tags, nameField, rowList, listAmong, listOf}
 use Rattle.meaning.specs.Refusals.{Lawful}
 use Rattle.meaning.specs.Answers.{Decides, holds, fails}
 use Rattle.meaning.proofs.Laws.Same.{same-decides}
-use Rattle.contents.specs.Parts.{Placed, InIndex, rowList}
+use Rattle.contents.specs.Parts.{Placed, InIndex}
 use Rattle.contents.proofs.Placing.{lawful-placed}
 
 -- Lists that are equal pass the test.

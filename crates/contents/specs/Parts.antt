@@ -4,7 +4,7 @@ use mathlib.Core.List.{List}
 use lib.ListN.{length, take, drop}
 use Rattle.meaning.specs.declared.Body.{Body}
 use Rattle.meaning.specs.Limits.{mostTags, mostLabels}
-use Rattle.meaning.specs.Day.{tags, offset, count, rowAt, TooShort, OtherVersion, WrongContents, WrongLength}
+use Rattle.meaning.specs.Day.{tags, offset, count, rowAt, rowList, TooShort, OtherVersion, WrongContents, WrongLength}
 use Rattle.meaning.specs.Refusals.{Table, end, row}
 
 -- Rows 1 to 4 of the refusal table, which are about the table of contents.
@@ -17,10 +17,6 @@ pub record Placed (b : List ℕ) : Type 0 where
   pub rows : rowAt (tags b) ≤ length b
   pub held : (r : ℕ) → r < tags b → offset b r + 8 * count b r ≤ length b
   pub small : (r : ℕ) → r < tags b → count b r ≤ mostLabels
-
--- The list of row r.
-abbrev pub rowList : List ℕ → ℕ → Body
-rowList b r = record { offset = offset b r; count = count b r }
 
 -- A list's body lies within the index.
 abbrev pub InIndex : List ℕ → Body → Type 0

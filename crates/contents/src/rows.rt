@@ -2,8 +2,8 @@
 ghost use mathlib.Core.Path.{_≡_};
 ghost use Prim.Native.Nat.{_+_, _*_, _<_, _≤_};
 ghost use lib.ListN.{length};
-ghost use Rattle.meaning.specs.Day.{tags, version, offset, count, rowAt};
-ghost use Rattle.contents.specs.Parts.{Placed, InIndex, rowList, bytesOf, rowBody};
+ghost use Rattle.meaning.specs.Day.{tags, version, offset, count, rowAt, rowList};
+ghost use Rattle.contents.specs.Parts.{Placed, InIndex, bytesOf, rowBody};
 use meaning::Body;
 use meaning::Index;
 use meaning::Label;

@@ -1,4 +1,5 @@
 -- The laws, in the order of `specs/`.
+pub mod Bytes
 pub mod Label
 pub mod Name
 pub mod Same

@@ -57,10 +57,14 @@ labelAt b at i = record { start = u32At b (at + 8 * i); end = u32At b (at + 8 * 
 abbrev pub listsOf : List ℕ → Lists
 listsOf b = record { many = tags b; count = count b; label = λ r i. labelAt b (offset b r) i }
 
--- The list of a name among the first r rows, as where its body begins and its number of labels; a name without a row has no records.
+-- The list of row r, as where its body begins and its number of labels.
+abbrev pub rowList : List ℕ → ℕ → Body
+rowList b r = record { offset = offset b r; count = count b r }
+
+-- The list of a name among the first r rows; a name without a row has no records.
 unfoldable pub listAmong : List ℕ → List ℕ → ℕ → Body
 listAmong b n zero = record { offset = 0; count = 0 }
-listAmong b n (suc r) = cond (same (nameField b r) (filled n)) (record { offset = offset b r; count = count b r }) (listAmong b n r)
+listAmong b n (suc r) = cond (same (nameField b r) (filled n)) (rowList b r) (listAmong b n r)
 
 -- The list of a name.
 abbrev pub listOf : List ℕ → List ℕ → Body

@@ -6,13 +6,12 @@ use mathlib.Core.Path.{_≡_, refl, sym, ap, subst, subst₂, _∙_}
 use mathlib.Core.Logic.{_⊎_, inl, inr, _≢_, ⊎-elim}
 use mathlib.Core.Bool.{Bool, true, false, cond}
 use mathlib.Core.List.{List}
-use lib.ListN.{length}
 use Rattle.meaning.specs.declared.Label.{Label}
 use Rattle.meaning.specs.declared.Body.{Body}
-use Rattle.meaning.specs.Limits.{mostLabels}
+use Rattle.meaning.specs.Limits.{mostTags}
 use Rattle.meaning.specs.Labels.{Inside, Apart, Lists, Place, labelOf, Holds, LawfulLists}
 use Rattle.meaning.specs.Names.{filled, same}
-use Rattle.meaning.specs.Day.{tags, rowAt, offset, count, labels, total, labelAt, listsOf, nameField, listAmong, listOf, RowRight, TooShort, OtherVersion, WrongContents, WrongLength}
+use Rattle.meaning.specs.Day.{tags, count, labels, total, labelAt, listsOf, nameField, rowList, listAmong, listOf, TooShort, OtherVersion, WrongContents, WrongLength}
 use Rattle.meaning.specs.Notation.{Path}
 use Rattle.meaning.specs.Picks.{asked, stepAt}
 use Rattle.meaning.specs.Fit.{Fit}
@@ -20,10 +19,6 @@ use Rattle.meaning.specs.Refusals.{Lawful}
 use Rattle.meaning.proofs.Decide.{or-not, eq-decides}
 use Rattle.meaning.proofs.Laws.Label.{lawful-lists, lawful-ordered, lawful-untangled}
 use Rattle.meaning.proofs.Laws.Step.{returned-lt, hook-upward}
-
--- The list of row r.
-abbrev pub rowList : List ℕ → ℕ → Body
-rowList b r = record { offset = offset b r; count = count b r }
 
 -- A list is that of a row below m, or has no labels.
 abbrev pub OfRow : List ℕ → ℕ → Body → Type 0
@@ -58,9 +53,12 @@ list-small b n = ⊎-elim (λ h. subst (λ (l : Body). l .count ≤ total b) (sy
 pub tags-over : (b : List ℕ) → 256 < tags b → WrongContents b
 tags-over b h = inl (omega arith)
 
-pub tags-within : (b : List ℕ) → tags b ≤ 256 → WrongContents b → (length b < rowAt (tags b)) ⊎ ((r : ℕ) × (r < tags b) × (RowRight b r → ⊥)) ⊎ (mostLabels < total b)
-tags-within b h (inl many) = absurd (omega arith)
-tags-within b h (inr other) = other
+pub tags-within : (b : List ℕ) → tags b ≤ 256 → mostTags < tags b → ⊥
+tags-within b h many = omega arith
+
+-- Places with the same list and the same list position are equal.
+pub place-≡ : (x y : Place) → x .list ≡ y .list → x .at ≡ y .at → x ≡ y
+place-≡ x y p q = λ i. record { list = p i; at = q i }
 
 -- Label i of a list that is a row's, as a label of the day.
 module _ (b : List ℕ) where
@@ -75,9 +73,6 @@ module _ (b : List ℕ) where
   placed l i (inl (r, r-lt, e)) il =
       (record { list = r; at = i }, record { list-lt = r-lt; at-lt = subst (λ (m : Body). i < m .count) e il }, ap (λ (m : Body). at-list m i) (sym e))
   placed l i (inr e) il = absurd (omega arith)
-
-  place-≡ : (x y : Place) → x .list ≡ y .list → x .at ≡ y .at → x ≡ y
-  place-≡ x y p q = λ i. record { list = p i; at = q i }
 
   same-place : (x y : Place) → (x ≡ y) ⊎ (x ≢ y)
   same-place x y = ⊎-elim (λ p. ⊎-elim (λ q. inl (place-≡ x y p q)) (λ q. inr (λ e. q (ap (λ (z : Place). z .at) e))) (equal (x .at) (y .at))) (λ p. inr (λ e. p (ap (λ (z : Place). z .list) e))) (equal (x .list) (y .list))

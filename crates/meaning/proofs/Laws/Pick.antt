@@ -23,25 +23,26 @@ module _ (a : Asked) (fit : Fit a) where
   pub earlier-starts : (s i j : ℕ) → i ≤ j → j < a .count s → a .label s i .start ≤ a .label s j .start
   earlier-starts s i j ij jl = ⊎-elim (λ e. subst (λ (k : ℕ). a .label s i .start ≤ a .label s k .start) e (omega arith)) (λ l. omega (arith, fit .ascending s i j l jl)) (eq-or-lt-of-le ij)
 
-  -- The one place where nesting is used: record i of step s lies inside record j of step u if i is no later than a record inside j, and
-  -- lies inside a record that is no earlier than j.
-  crossed : (s i i′ u j j′ : ℕ) → i ≤ i′ → i′ < a .count s → j ≤ j′ → j′ < a .count u
-      → Edge (a .label s i) (a .label u j′) → Edge (a .label s i′) (a .label u j) → Edge (a .label s i) (a .label u j)
-  crossed s i i′ u j j′ ii il jj jl above below = go (fit .laminar s i u j (omega arith) (omega arith))
+  -- Records are nested or apart, so that a record which starts within another lies inside it. What else is known of picks rests on this
+  -- use of nesting.
+  pub within-inside : (s i u j : ℕ) → i < a .count s → j < a .count u → a .label u j .start < a .label s i .start → a .label s i .start ≤ a .label u j .end → Edge (a .label s i) (a .label u j)
+  within-inside s i u j il jl after reached = go (fit .laminar s i u j il jl)
     where
-      sooner : a .label s i .start ≤ a .label s i′ .start
-      sooner = earlier-starts s i i′ ii il
-
-      outer : a .label u j .start ≤ a .label u j′ .start
-      outer = earlier-starts u j j′ jj jl
-
       go : (a .label s i ≡ a .label u j) ⊎ Inside (a .label s i) (a .label u j) ⊎ Inside (a .label u j) (a .label s i) ⊎ Apart (a .label s i) (a .label u j)
           → Edge (a .label s i) (a .label u j)
-      go (inl e) = absurd (omega (arith, outer, above .after, ap (λ l. l .start) e))
+      go (inl e) = absurd (omega (arith, ap (λ l. l .start) e))
       go (inr (inl h)) = h
-      go (inr (inr (inl h))) = absurd (omega (arith, outer, above .after, h .after))
-      go (inr (inr (inr (inl h)))) = absurd (omega (arith, outer, above .after, fit .ordered s i (omega arith)))
-      go (inr (inr (inr (inr h)))) = absurd (omega (arith, sooner, below .before, fit .ordered s i′ il))
+      go (inr (inr (inl h))) = absurd (omega (arith, h .after))
+      go (inr (inr (inr (inl h)))) = absurd (omega (arith, h, fit .ordered s i il))
+      go (inr (inr (inr (inr h)))) = absurd (omega (arith, h))
+
+  -- Record i of step s lies inside record j of step u if i is no later than a record inside j, and lies inside a record that is no
+  -- earlier than j.
+  crossed : (s i i′ u j j′ : ℕ) → i ≤ i′ → i′ < a .count s → j ≤ j′ → j′ < a .count u
+      → Edge (a .label s i) (a .label u j′) → Edge (a .label s i′) (a .label u j) → Edge (a .label s i) (a .label u j)
+  crossed s i i′ u j j′ ii il jj jl above below =
+      within-inside s i u j (omega arith) (omega arith) (omega (arith, earlier-starts u j j′ jj jl, above .after))
+      (omega (arith, earlier-starts s i i′ ii il, fit .ordered s i′ il, below .before))
 
   module _ (p q : ℕ → ℕ) (pick-p : Pick a p) (pick-q : Pick a q) where
     earlier-hung : (s : ℕ) → s < a .steps → (h : Hook) → ((u : ℕ) → h ≡ from u → u < s) → Hung a p s h → Hung a q s h → Hung a (earlier p q) s h

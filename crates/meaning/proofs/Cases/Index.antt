@@ -13,8 +13,9 @@ nest zero s e = []
 nest (suc n) s e = label s e ++ nest n (s + 1) (e - 1)
 
 -- The bytes 0 0 2 0, the bytes 1 0 1 0, 3 bytes; 64 nested and 65 nested; the numbers 0 and 4,294,967,295; a list without labels.
--- Then the version 256; labels over 2^24, in bytes: 65,536:16,777,216 and the same numbers the other way round; 1,048,576 labels, which the
--- length does not have, and one more; a row cut short behind its offset; rows that ascend, are equal and descend.
+-- Then the versions 256 and 257; 256 tags in 4 bytes; a byte more than the length; an offset of 65,536 too many; labels over 2^24, in bytes:
+-- 65,536:16,777,216 and the same numbers the other way round; 1,048,576 labels, which the length does not have, and one more; a row cut
+-- short behind its offset; rows that ascend, are equal and descend.
 unfoldable pub others : List Case
 unfolding bytes nest
 others =
@@ -33,6 +34,14 @@ others =
     check (head 1 ++ row "call" 28 0) 0
     ∷
     check (0 ∷ 0 ∷ 0 ∷ 1 ∷ []) 2
+    ∷
+    check (0 ∷ 0 ∷ 1 ∷ 1 ∷ []) 2
+    ∷
+    check (0 ∷ 1 ∷ 1 ∷ 0 ∷ []) 3
+    ∷
+    check (0 ∷ 0 ∷ 1 ∷ 0 ∷ 0 ∷ []) 4
+    ∷
+    check (head 1 ++ row "call" 65_564 0) 3
     ∷
     check (head 1 ++ row "call" 28 1 ++ 0 ∷ 0 ∷ 1 ∷ 0 ∷ 0 ∷ 0 ∷ 0 ∷ 1 ∷ []) 0
     ∷
@@ -55,4 +64,4 @@ others =
 -- Each of them is right.
 pub others-right : All others
 unfolding others rightB
-others-right = all-right others (tt, (tt, (tt, (tt, (tt, (tt, (tt, (tt, (tt, (tt, (tt, (tt, (tt, (tt, (tt, (tt, tt))))))))))))))))
+others-right = all-right others (tt, (tt, (tt, (tt, (tt, (tt, (tt, (tt, (tt, (tt, (tt, (tt, (tt, (tt, (tt, (tt, (tt, (tt, (tt, (tt, tt))))))))))))))))))))

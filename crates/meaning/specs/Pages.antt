@@ -9,7 +9,7 @@ use lib.ListN.{length, take, drop, getD}
 use Rattle.meaning.specs.declared.Page.{Page}
 use Rattle.meaning.specs.Limits.{mostLabels}
 use Rattle.meaning.specs.Notation.{Follows}
-use Rattle.meaning.specs.Picks.{Asked, Returned, Evidence, asked}
+use Rattle.meaning.specs.Picks.{Asked, Returned, asked}
 
 -- The list holds i.
 abbrev pub In : ℕ → List ℕ → Type 0

@@ -1,5 +1,4 @@
 -- The characters of a name and its length, at the borders of what document 01 allows: all 256 bytes are tried.
-use Prim.Native.Nat.{ℕ}
 use mathlib.Core.Path.{_≡_, refl}
 use mathlib.Core.Bool.{true, false}
 use lib.ListN.{replicate}

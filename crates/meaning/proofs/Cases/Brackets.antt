@@ -1,5 +1,4 @@
 -- What brackets in a question say: what each step hangs from, which step is returned, how many there are, and how deep the brackets go.
-use Prim.Native.Nat.{ℕ}
 use mathlib.Core.Path.{_≡_, refl}
 use mathlib.Core.List.{List, [], _∷_}
 use Rattle.meaning.specs.Notation.{Path, path, finish, bracket, next, Hook, nothing, from, Step, steps, depth, list, stepList, lastStep, returnedStep}

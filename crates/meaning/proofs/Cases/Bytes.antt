@@ -1,5 +1,4 @@
 -- Numbers in bytes, little endian, with another byte at each place: 1 × 256 + 2, and 1 × 16,777,216 + 2 × 65,536 + 3 × 256 + 4.
-use Prim.Native.Nat.{ℕ}
 use mathlib.Core.Path.{_≡_, refl}
 use mathlib.Core.List.{[], _∷_}
 use Rattle.meaning.specs.Bytes.{u16At, u32At}

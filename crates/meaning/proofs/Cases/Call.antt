@@ -2,7 +2,7 @@
 -- field of its result here, and a page the whole buffer before and after.
 use Prim.Native.Nat.{ℕ, _≤_, _<_}
 use native.Mathlib.Omega.{arith}
-use mathlib.Core.Path.{_≡_, refl, sym, subst}
+use mathlib.Core.Path.{_≡_, sym, subst}
 use mathlib.Core.Logic.{_⊎_, inl, inr}
 use mathlib.Core.Bool.{Bool, true, false, _&&_}
 use mathlib.Core.List.{List, [], _∷_}
@@ -16,8 +16,8 @@ use Rattle.meaning.specs.Names.{same}
 use Rattle.meaning.specs.Notation.{Path, write, Named, Follows, steps, depth, TooLong}
 use Rattle.meaning.specs.Picks.{asked}
 use Rattle.meaning.specs.Pages.{answerRoom, evidenceRoom}
-use Rattle.meaning.specs.Refusals.{Given, Lawful, checkTable, questionTable, callTable}
-use Rattle.meaning.specs.Promises.{Checked, Outcome, refused, Answered, Shown}
+use Rattle.meaning.specs.Refusals.{Given, checkTable, questionTable, callTable}
+use Rattle.meaning.specs.Promises.{Checked, refused, Answered, Shown}
 use Rattle.meaning.proofs.Decide.{passed, le-decides, lt-decides, eq-decides, and-decides, either-decides}
 use Rattle.meaning.proofs.Decide.Day.{checkOf, check-agrees}
 use Rattle.meaning.proofs.Decide.Notation.{namedB, named-decides}

@@ -1,25 +1,24 @@
 -- A test of the cases that antt computes, proved to agree with the definitions: a table that passes it is right.
-use Prim.Native.Nat.{ℕ, _≤_, _<_, min}
+use Prim.Native.Nat.{ℕ, _≤_, min}
 use native.Mathlib.Omega.{arith}
-use mathlib.Core.Path.{_≡_, refl, sym, ap, ap₂, subst, _∙_}
+use mathlib.Core.Path.{_≡_, refl, sym, ap, subst, _∙_}
 use mathlib.Core.Logic.{inl, inr}
 use mathlib.Core.Bool.{Bool, true, false, _&&_}
-use mathlib.Core.List.{List, [], _∷_, _++_}
+use mathlib.Core.List.{List, [], _∷_}
 use lib.Dec.{T, leb, ltb, eqb}
-use lib.ListN.{length, take, drop, getD}
+use lib.ListN.{length, take, getD}
 use lib.Seq.{length-take-le}
 use Rattle.meaning.specs.Answers.{Decides, holds, fails}
-use Rattle.meaning.specs.declared.Page.{Page}
 use Rattle.meaning.specs.Limits.{mostText, mostSteps, mostDepth}
 use Rattle.meaning.specs.Bytes.{u32At}
 use Rattle.meaning.specs.Names.{initial, further, allFurther, short, isName, same}
-use Rattle.meaning.specs.Day.{labels, total, labelAt, listAmong}
-use Rattle.meaning.specs.Notation.{Path, write, Named, Follows, steps, depth, list, lastStep, TooLong, NotFollowing, TooLarge}
+use Rattle.meaning.specs.Day.{labels, total, listAmong}
+use Rattle.meaning.specs.Notation.{write, Named, Follows, steps, depth, list, lastStep, TooLong, TooLarge}
 use Rattle.meaning.specs.Picks.{Asked, Evidence, asked}
-use Rattle.meaning.specs.Pages.{Records, Rows, none, row, Position, Paged, answerRoom, evidenceRoom}
+use Rattle.meaning.specs.Pages.{Rows, none, row, Position, Paged, evidenceRoom}
 use Rattle.meaning.specs.Refusals.{Clear, Lawful, checkTable, questionTable, callTable}
-use Rattle.meaning.specs.Promises.{Checked, Outcome, page, Answered, Shown}
-use Rattle.meaning.proofs.Decide.{each, some, passed, decides-as, le-decides, eq-decides, and-decides, after-decides, sameBool, bool-decides}
+use Rattle.meaning.specs.Promises.{Checked, page}
+use Rattle.meaning.proofs.Decide.{each, some, passed, le-decides, eq-decides, and-decides, after-decides, sameBool, bool-decides}
 use Rattle.meaning.proofs.Laws.Same.{same-decides}
 use Rattle.meaning.proofs.Decide.Notation.{namedB, named-decides}
 use Rattle.meaning.proofs.Laws.Notation.{one-tree}

@@ -2,16 +2,15 @@
 use Prim.Native.Nat.{ℕ, zero, suc, _+_, _*_}
 use native.Mathlib.Omega.{arith}
 use mathlib.Core.Path.{_≡_, refl, subst}
-use mathlib.Core.Logic.{inl, inr}
 use mathlib.Core.Bool.{Bool, true, false, not}
 use mathlib.Core.List.{List}
 use lib.Dec.{ltb, eqb}
 use lib.ListN.{length}
-use Rattle.meaning.specs.Answers.{Decides, holds, fails}
+use Rattle.meaning.specs.Answers.{Decides, holds}
 use Rattle.meaning.specs.Limits.{mostTags, mostLabels}
 use Rattle.meaning.specs.Bytes.{u16At, u32At}
 use Rattle.meaning.specs.Names.{initial, further, allFurther, short, isName, same, Sooner}
-use Rattle.meaning.specs.Day.{tags, version, rowAt, nameField, offset, labels, labelAt, total, bodyAt, listsOf, RowRight, TooShort, OtherVersion, WrongContents, WrongLength, WrongLists, WrongNesting}
+use Rattle.meaning.specs.Day.{tags, version, rowAt, nameField, offset, labels, total, bodyAt, listsOf, RowRight, TooShort, OtherVersion, WrongContents, WrongLength, WrongLists, WrongNesting}
 use Rattle.meaning.specs.Refusals.{clear}
 use Rattle.meaning.specs.Promises.{Checked}
 use Rattle.meaning.proofs.Decide.{decides-as, not-decides, lt-decides, eq-decides, each, some, some-decides, both-decides, either-decides}

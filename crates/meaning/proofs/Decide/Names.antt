@@ -1,14 +1,14 @@
 -- Tests of names that antt computes: whether a name, filled up with zero bytes, stands in a field, and which of two fields comes first.
-use Prim.Native.Nat.{ℕ, suc, _-_, _≤_, _<_}
+use Prim.Native.Nat.{ℕ, suc, _-_, _<_}
 use native.Mathlib.Omega.{arith}
-use mathlib.Core.Path.{_≡_, refl, sym, ap, subst, _∙_}
+use mathlib.Core.Path.{_≡_, sym, ap, subst, _∙_}
 use mathlib.Core.Logic.{⊎-elim}
 use mathlib.Core.Bool.{Bool, true, false}
-use mathlib.Core.List.{List, [], _∷_}
+use mathlib.Core.List.{List}
 use lib.Dec.{ltb, eqb}
 use lib.ListN.{length, take, getD, replicate, List·getD-eq-default}
 use lib.Seq.{take-append-seam}
-use Rattle.meaning.specs.Answers.{Decides, holds, fails}
+use Rattle.meaning.specs.Answers.{Decides}
 use Rattle.meaning.specs.Limits.{mostName}
 use Rattle.meaning.specs.Names.{isName, Name, filled, Sooner, same}
 use Rattle.meaning.proofs.Decide.{true-decides, decides-as, or-not, lt-decides, eq-decides, each, each-decides, some, some-decides, both-decides}

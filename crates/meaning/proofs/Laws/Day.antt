@@ -9,7 +9,7 @@ use mathlib.Core.List.{List}
 use Rattle.meaning.specs.declared.Label.{Label}
 use Rattle.meaning.specs.declared.Body.{Body}
 use Rattle.meaning.specs.Limits.{mostTags}
-use Rattle.meaning.specs.Labels.{Inside, Apart, Lists, Place, labelOf, Holds, LawfulLists}
+use Rattle.meaning.specs.Labels.{Inside, Apart, Place, labelOf, Holds, LawfulLists}
 use Rattle.meaning.specs.Names.{filled, same}
 use Rattle.meaning.specs.Day.{tags, count, labels, total, labelAt, listsOf, nameField, rowList, listAmong, listOf, TooShort, OtherVersion, WrongContents, WrongLength}
 use Rattle.meaning.specs.Notation.{Path}

@@ -1,12 +1,11 @@
 -- Inside is proper, and lists for which refusals 5 and 6 find nothing are just the lawful ones.
-use Prim.Native.Nat.{ℕ, suc, _≤_, _<_}
+use Prim.Native.Nat.{ℕ, _<_}
 use native.Mathlib.Omega.{arith}
-use mathlib.Core.Path.{_≡_, refl, sym, ap}
+use mathlib.Core.Path.{sym}
 use mathlib.Core.Logic.{_⊎_, inl, inr, _≢_, ⊎-elim}
 use Rattle.meaning.specs.declared.Label.{Label}
-use Rattle.meaning.specs.Limits.{mostNested}
 use Rattle.meaning.specs.Labels.{Inside, Apart, Different, Lists, Place, labelOf, Holds, Nested, LawfulLists, Unordered, Share, Cross, Clash, Tangled}
-use Rattle.meaning.proofs.Decide.{or-not, le-decides, lt-decides}
+use Rattle.meaning.proofs.Decide.{or-not, lt-decides}
 
 -- A label that lies inside another starts at another number, and ends at another.
 pub inside-differs : (a b : Label) → Inside a b → (a .start ≢ b .start) × (a .end ≢ b .end)

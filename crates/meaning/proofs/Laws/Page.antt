@@ -1,16 +1,15 @@
 -- A page is fixed in its result and in the whole buffer, and one with room for a row ends the walk or names a later place.
-use Prim.Native.Nat.{ℕ, zero, suc, _+_, _≤_, _<_, min}
+use Prim.Native.Nat.{ℕ, zero, suc, _+_, _≤_, _<_}
 use native.Mathlib.Omega.{arith}
 use mathlib.Core.Path.{_≡_, refl, sym, ap, ap₂, subst, _∙_}
-use mathlib.Core.Logic.{_⊎_, inl, inr, ⊎-elim}
+use mathlib.Core.Logic.{_⊎_, inl, inr}
 use mathlib.Core.Bool.{Bool, true, false}
 use mathlib.Core.List.{List, [], _∷_, _++_}
-use lib.Dec.{ltb}
 use lib.ListN.{length, take, drop, getD}
-use borrow.Author.Tests.{ltb-true, lt-ltb, le-ltb}
+use borrow.Author.Tests.{ltb-true}
 use Rattle.meaning.specs.declared.Page.{Page}
 use Rattle.meaning.specs.Picks.{Asked}
-use Rattle.meaning.specs.Pages.{Ascending, In, Records, Rows, none, row, Paged, Refused}
+use Rattle.meaning.specs.Pages.{Ascending, In, Rows, none, row, Paged, Refused}
 use Rattle.meaning.proofs.Laws.Record.{records-one, holds-at}
 
 -- A record's row is one: two rows of one record are equal.

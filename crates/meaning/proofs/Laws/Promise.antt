@@ -9,7 +9,7 @@ use lib.ListN.{length}
 use Rattle.meaning.specs.declared.Page.{Page}
 use Rattle.meaning.specs.Limits.{mostLabels}
 use Rattle.meaning.specs.Day.{total}
-use Rattle.meaning.specs.Notation.{Path, Follows}
+use Rattle.meaning.specs.Notation.{Path}
 use Rattle.meaning.specs.Picks.{Asked, Returned, asked, stepAt}
 use Rattle.meaning.specs.Pages.{In, Records, Paged, Refused, TooMany}
 use Rattle.meaning.specs.Refusals.{Lawful, checkTable, questionTable, callTable}

@@ -1,34 +1,40 @@
--- What a reader of a row's body hands out, said of the lists of the index.
-use Prim.Native.Nat.{ℕ, _*_, _≤_, _<_}
+-- What is wrong in a row's body by itself is what is wrong in the row's list.
+use Prim.Native.Nat.{ℕ, _*_, _<_}
 use native.Mathlib.Omega.{arith}
-use mathlib.Core.Path.{_≡_, sym, ap, subst, _∙_}
+use mathlib.Core.Path.{_≡_, ap}
 use mathlib.Core.List.{List}
 use lib.ListN.{length}
-use Rattle.meaning.specs.Day.{tags, offset, count, listsOf}
-use Rattle.meaning.specs.declared.Label.{Label as Meant}
-use Rattle.label.specs.declared.reader.Next.{Next}
-use Rattle.label.specs.declared.reader.Next.the-variants.{Label, End}
-use Rattle.label.specs.Reading.{nextAt}
+use Rattle.meaning.specs.Day.{tags, offset, count, labelAt, listsOf}
+use Rattle.meaning.specs.declared.Label.{Label}
+use Rattle.label.specs.Reading.{labels}
 use Rattle.label.proofs.PartLaws.{label-part}
-use Rattle.label.proofs.ReaderLaws.{Says, next-says}
 use Rattle.contents.specs.Parts.{Placed, rowBody}
 use Rattle.contents.proofs.BodyLaws.{body-length}
+use Rattle.day.specs.Ordering.{Disordered, BodyWrong, ListWrong, backward, descent}
 
--- What is known of list r and a place when this comes next there: it is the list's label, or the list has none there.
-abbrev pub Found : List ℕ → ℕ → ℕ → Next → Type 0
-Found b r i (Label start end) = (i < count b r) × (start ≡ listsOf b .label r i .start) × (end ≡ listsOf b .label r i .end)
-Found b r i End = count b r ≤ i
+module _ (b : List ℕ) (r : ℕ) (p : Placed b) (l : r < tags b) where
+  -- The body has as many whole labels as the list.
+  many : labels (rowBody b r) ≡ count b r
+  many = let long : length (rowBody b r) ≡ 8 * count b r = body-length b r (p .held r l) in omega (arith, long)
 
--- What a reader of the row's body hands out says so.
-pub found : (b : List ℕ) (r i : ℕ) (x : Next) → Placed b → r < tags b → x ≡ nextAt (rowBody b r) i → Found b r i x
-found b r i x p l e = go x (subst (Says (rowBody b r) i) (sym e) (next-says (rowBody b r) i))
-  where
-    long : length (rowBody b r) ≡ 8 * count b r
-    long = body-length b r (p .held r l)
+  -- Its labels are the list's.
+  one : (i : ℕ) → i < count b r → labelAt (rowBody b r) 0 i ≡ listsOf b .label r i
+  one i il = label-part b (offset b r) (8 * count b r) i (omega arith)
 
-    go : (y : Next) → Says (rowBody b r) i y → Found b r i y
-    go (Label start end) (below, is, ends) =
-        let here : i < count b r = omega (arith, long) in
-        let one = label-part b (offset b r) (8 * count b r) i (omega arith) in
-        (here, is ∙ ap (λ (v : Meant). v .start) one, ends ∙ ap (λ (v : Meant). v .end) one)
-    go End done = omega (arith, long)
+  start : (i : ℕ) → i < count b r → labelAt (rowBody b r) 0 i .start ≡ listsOf b .label r i .start
+  start i il = ap (λ (v : Label). v .start) (one i il)
+
+  end : (i : ℕ) → i < count b r → labelAt (rowBody b r) 0 i .end ≡ listsOf b .label r i .end
+  end i il = ap (λ (v : Label). v .end) (one i il)
+
+  pub list-by-body : BodyWrong (rowBody b r) → ListWrong (listsOf b) r
+  list-by-body (backward i il d) =
+      let here : i < count b r = omega (arith, many) in
+      backward i here (omega (arith, start i here, end i here))
+  list-by-body (descent i j ij jl d) =
+      let here : j < count b r = omega (arith, many) in
+      descent i j ij here (omega (arith, start i (omega arith), start j here))
+
+  pub body-by-list : ListWrong (listsOf b) r → BodyWrong (rowBody b r)
+  body-by-list (backward i il d) = backward i (omega (arith, many)) (omega (arith, start i il, end i il))
+  body-by-list (descent i j ij jl d) = descent i j ij (omega (arith, many)) (omega (arith, start i (omega arith), start j jl))

@@ -2,6 +2,7 @@
 pub mod CheckLaws
 pub mod Bodies
 pub mod Listing
+pub mod Looking
 pub mod Sweeping
 pub mod Opening
 pub mod Passing

@@ -1,26 +1,25 @@
 -- What a reader hands out, by cases: a label stands below the number of whole labels, and at the end there is none.
-use Prim.Native.Nat.{ℕ, _/_, _≤_, _<_}
+use Prim.Native.Nat.{ℕ, _≤_, _<_}
 use native.Mathlib.Nat.{lt-of-not-le}
 use native.Mathlib.Decide.{decLe}
 use borrow.Author.Tests.{lt-ltb, le-ltb}
 use mathlib.Core.Path.{_≡_, refl, sym, subst}
-use mathlib.Core.Bool.{Bool}
+use mathlib.Core.Bool.{Bool, cond}
 use mathlib.Core.List.{List}
-use lib.ListN.{length}
 use Rattle.meaning.specs.Day.{labelAt}
 use Rattle.label.specs.declared.reader.Next.{Next}
 use Rattle.label.specs.declared.reader.Next.the-variants.{Label, End}
-use Rattle.label.specs.Reading.{either, nextAt}
+use Rattle.label.specs.Reading.{labels, nextAt}
 
 -- What is known of a body and a place when this comes next there.
 abbrev pub Says : List ℕ → ℕ → Next → Type 0
-Says b at (Label start end) = (at < length b / 8) × (start ≡ labelAt b 0 at .start) × (end ≡ labelAt b 0 at .end)
-Says b at End = length b / 8 ≤ at
+Says b at (Label start end) = (at < labels b) × (start ≡ labelAt b 0 at .start) × (end ≡ labelAt b 0 at .end)
+Says b at End = labels b ≤ at
 
 -- What comes next says so.
 pub next-says : (b : List ℕ) (at : ℕ) → Says b at (nextAt b at)
-next-says b at = go (decLe (length b / 8) at)
+next-says b at = go (decLe (labels b) at)
   where
-    go : Dec (length b / 8 ≤ at) → Says b at (nextAt b at)
-    go (yes l) = subst (λ (t : Bool). Says b at (either t (Label (labelAt b 0 at .start) (labelAt b 0 at .end)) End)) (sym (le-ltb _ _ l)) l
-    go (no h) = subst (λ (t : Bool). Says b at (either t (Label (labelAt b 0 at .start) (labelAt b 0 at .end)) End)) (sym (lt-ltb _ _ (lt-of-not-le h))) (lt-of-not-le h, refl, refl)
+    go : Dec (labels b ≤ at) → Says b at (nextAt b at)
+    go (yes l) = subst (λ (t : Bool). Says b at (cond t (Label (labelAt b 0 at .start) (labelAt b 0 at .end)) End)) (sym (le-ltb _ _ l)) l
+    go (no h) = subst (λ (t : Bool). Says b at (cond t (Label (labelAt b 0 at .start) (labelAt b 0 at .end)) End)) (sym (lt-ltb _ _ (lt-of-not-le h))) (lt-of-not-le h, refl, refl)

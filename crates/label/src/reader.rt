@@ -1,7 +1,8 @@
-// A reader of one list's body: it keeps the body and its place in it, and hands out the label that comes next. Whoever has the body and a
-// place in plain parameters calls `next_label`.
+// A reader of one list's body: it keeps the body and its place in it. It is made at the first label, hands out the label that comes next, and
+// is moved on from there. Each function over it is thin: the work is done by a function on the slice and the number.
 ghost use mathlib.Core.Path.{_≡_};
-ghost use Rattle.label.specs.Reading.{readerAt, nextAt};
+ghost use Prim.Native.Nat.{_+_, _<_, _^_};
+ghost use Rattle.label.specs.Reading.{readerAt, nextAt, nextOf, LabelNext, onward};
 use crate::end_at;
 use crate::start_at;
 use meaning::Label;
@@ -19,7 +20,7 @@ pub enum Next {
     End,
 }
 
-// The work: label `at` of a body, or its end.
+// Label `at` of a body, or its end.
 fn next_at(body: &[u8], at: usize) -> Next
     ensures { λ r. ⌜ r ≡ nextAt (now (body .entry)) at ⌝ }
 {
@@ -33,23 +34,35 @@ fn next_at(body: &[u8], at: usize) -> Next
     }
 }
 
-// A reader at a place of a body.
-pub fn new<'a>(body: &'a [u8], at: usize) -> Reader<'a>
-    ensures { λ r. ⌜ r ≡ readerAt (body .entry) at ⌝ }
+// The place after one.
+fn after(at: usize) -> usize
+    requires { ⌜ at + 1 < 2 ^ 64 ⌝ }
+    ensures { λ r. ⌜ r ≡ at + 1 ⌝ }
 {
-    Reader { body, at }
+    at + 1
+}
+
+// A reader of a body, at its first label.
+pub fn new<'a>(body: &'a [u8]) -> Reader<'a>
+    ensures { λ r. ⌜ r ≡ readerAt (body .entry) 0 ⌝ }
+{
+    Reader { body, at: 0 }
 }
 
 // What comes next at a reader's place.
 pub fn hand_out<'a>(reader: Reader<'a>) -> Next
-    ensures { λ r. ⌜ r ≡ nextAt (now (reader .entry .body)) (reader .entry .at) ⌝ }
+    ensures { λ r. ⌜ r ≡ nextOf (reader .entry) ⌝ }
 {
     next_at(reader.body, reader.at)
 }
 
-// What a reader of the body hands out at a place.
-pub fn next_label(body: &[u8], at: usize) -> Next
-    ensures { λ next. ⌜ next ≡ nextAt (now (body .entry)) at ⌝ }
+// The reader behind the label that comes next.
+pub fn moved_on<'a>(reader: Reader<'a>) -> Reader<'a>
+    requires { ⌜ LabelNext reader ⌝ }
+    ensures { λ r. ⌜ r ≡ onward (reader .entry) ⌝ }
 {
-    hand_out(new(body, at))
+    Reader {
+        body: reader.body,
+        at: after(reader.at),
+    }
 }

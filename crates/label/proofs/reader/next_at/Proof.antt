@@ -1,8 +1,11 @@
 -- `reader::next_at` meets its contract: a place below the number of whole labels has one.
+use Prim.Native.Nat.{_≤_, _<_}
+use native.Mathlib.Omega.{arith}
 use borrow.Author.Needs.{needs}
 use borrow.Author.Tests.{lt-ltb, le-ltb}
 use mathlib.Core.Path.{_∙_}
 use Rattle.label.specs.declared.reader.Next.the-variants.{Label}
+use Rattle.label.specs.Reading.{labels}
 use Rattle.label.proofs.reader.next_at.Statement.{statement}
 use Rattle.label.proofs.reader.next_at.Tie as tie
 
@@ -13,10 +16,16 @@ end-at-requires : tie.Need-end-at-requires
 end-at-requires c κs = search needs
 
 returns : tie.Need-returns
-returns c = (λ i. Label (c .before .start-at .ensures .0 i) (c .end-at .ensures .0 i)) ∙ simp (lt-ltb _ _ (c .before .before .if1 .taken))
+returns c =
+    let s = c .before .before .before .before in
+    let below : s .args .at < labels (s .args .body .now) = omega (arith, c .before .before .if1 .taken) in
+    (λ i. Label (c .before .start-at .ensures .0 i) (c .end-at .ensures .0 i)) ∙ simp (lt-ltb _ _ below)
 
 returns-2 : tie.Need-returns-2
-returns-2 c = simp (le-ltb _ _ (c .if1 .left))
+returns-2 c =
+    let s = c .before .before in
+    let behind : labels (s .args .body .now) ≤ s .args .at = omega (arith, c .if1 .left) in
+    simp (le-ltb _ _ behind)
 
 pub next-at-spec : {M : Type 1} → statement M
 next-at-spec = tie.close (tie.spec start-at-requires end-at-requires returns returns-2)

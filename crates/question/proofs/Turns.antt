@@ -175,14 +175,20 @@ module _ {t : List ℕ} {d : ℕ} {q₀ q : Draft} (g : Going t d q₀ q) where
       }
 
   -- A turn with a bracket.
-  pub again-bracket : {p r : Draft} → drop (q .at) t ≡ 91 ∷ drop (q .at + 1) t → PathRead t (q .last) (d + 1) (moved q (q .at + 1) (q .last)) p → Closed t (q .last) p r → State t d q₀ r
+  bracket-turn : {p r : Draft} → drop (q .at) t ≡ 91 ∷ drop (q .at + 1) t → PathRead t (q .last) (d + 1) (moved q (q .at + 1) (q .last)) p → Closed t (q .last) p r → State t d q₀ r
   unfolding moved
-  again-bracket e (whole y) (shut s z w) = on (bracket-on e y z w)
-  again-bracket {p} e (whole y) (unshut b n) = lost b (λ _ x l.
+  bracket-turn e (whole y) (shut s z w) = on (bracket-on e y z w)
+  bracket-turn {p} e (whole y) (unshut b n) = lost b (λ _ x l.
       let s = to-bracket t e (g .to x l) in
       n (behind-path y .sound ∙ g .sound) (subst (λ (u : Draft). ShutAt t (u .at)) (one-path t (s .walk) y) (s .close)))
-  again-bracket e (torn b n) (shut s z w) = absurd (not-both b s)
-  again-bracket e (torn b n) (unshut c m) = lost c (λ _ x l. n _ (to-bracket t e (g .to x l) .walk))
+  bracket-turn e (torn b n) (shut s z w) = absurd (not-both b s)
+  bracket-turn e (torn b n) (unshut c m) = lost c (λ _ x l. n _ (to-bracket t e (g .to x l) .walk))
+
+  -- The same, where what the path hangs from and how deep it is are given by numbers that have to be the right ones.
+  pub again-bracket : {hang deeper : ℕ} {p r : Draft} → drop (q .at) t ≡ 91 ∷ drop (q .at + 1) t → PathRead t hang deeper (moved q (q .at + 1) (q .last)) p → Closed t (q .last) p r → hang ≡ q .last → deeper ≡ d + 1 → State t d q₀ r
+  again-bracket {hang} {deeper} {p} e y z hung deep =
+      let inner : Draft = moved q (q .at + 1) (q .last) in
+      bracket-turn e (subst (λ (i : ℕ). PathRead t i (d + 1) inner p) hung (subst (λ (i : ℕ). PathRead t hang i inner p) deep y)) z
 
   -- Such a turn moves on, or finds the text broken.
   pub bracket-moves : {hang e : ℕ} {p r : Draft} → PathRead t hang e (moved q (q .at + 1) (q .last)) p → Closed t (q .last) p r → r .broken ≡ false → q .at < r .at

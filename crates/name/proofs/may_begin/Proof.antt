@@ -28,7 +28,7 @@ returns-4 : tie.Need-returns-4
 unfolding initial
 returns-4 c =
     let x = c .before .before .before .before .args .c in
-    simp (le-leb 65 x (omega arith), lt-leb x 90 (omega arith), lt-leb 97 x (omega arith), ne-eqb x 95 (c .before .if3 .left))
+    simp (le-leb 65 x (omega arith), lt-leb x 90 (omega arith), lt-leb 97 x (omega arith), ne-eqb x 95 (omega arith))
 
 returns-5 : tie.Need-returns-5
 unfolding initial

@@ -33,7 +33,7 @@ unfolding further
 returns-4 c =
     let e = c .before .before .before in
     let x = e .before .before .args .c in
-    rw (← e .before .may-begin .ensures) (simp (e .if1 .left, lt-leb 48 x (omega arith), ne-eqb x 45 (c .before .before .if2 .left), ne-eqb x 46 (c .before .if3 .left)))
+    rw (← e .before .may-begin .ensures) (simp (e .if1 .left, lt-leb 48 x (omega arith), ne-eqb x 45 (omega arith), ne-eqb x 46 (omega arith)))
 
 returns-5 : tie.Need-returns-5
 unfolding further

@@ -115,7 +115,7 @@ loop-again : (t : ℕ) → lts.Need-loop-again (claims t) (at-measure t) read-pa
 unfolding moved
 loop-again t c =
     let v = c .before .before .before .before .before .before in
-    again-bracket (on-here t v) (byte-at (text t v) (test t v .loop .d .at) 91 (in-text t v) (c .before .before .before .if3 .taken)) (c .before .read-path .ensures) (c .leave .ensures)
+    again-bracket (on-here t v) (byte-at (text t v) (test t v .loop .d .at) 91 (in-text t v) (c .before .before .before .if3 .taken)) (c .before .read-path .ensures) (c .leave .ensures) (omega arith) (omega arith)
 
 step-requires-2 : (t : ℕ) → lts.Need-step-requires-2 (claims t) (at-measure t) read-path.Post Inv-loop μ-loop
 step-requires-2 t c κs = let v = c .before .before .before in next-ready (on-here t v) (short t v)

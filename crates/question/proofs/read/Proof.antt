@@ -1,7 +1,10 @@
 -- `question::read` meets its contract: each return by what was found of the text.
 use borrow.Author.Needs.{needs}
+use Prim.Native.Nat.{_≤_}
 use native.Mathlib.Omega.{arith}
 use mathlib.Core.Logic.{inl, inr}
+use lib.ListN.{length}
+use Rattle.meaning.specs.Limits.{mostText}
 use Rattle.meaning.specs.Notation.{TooLong}
 use Rattle.question.proofs.Texts.{fresh-ready, some-within, broken-follows, rest-follows, all-held}
 use Rattle.question.proofs.Outcomes.{over-long, no-tree, over-large, as-read}
@@ -19,6 +22,10 @@ returns c =
     let h : TooLong (c .before .before .before .before .args .text .now) = omega arith in
     over-long (c .before .before .blank-steps .ensures) h (c .refused .ensures)
 
+-- Behind the first test the text is not too long.
+short : (e : tie.Else1) → length (e .before .before .before .args .text .now) ≤ mostText
+short e = omega arith
+
 cast-read-path : tie.Need-cast-read-path
 cast-read-path c = search needs
 
@@ -26,7 +33,7 @@ fresh-draft-requires : tie.Need-fresh-draft-requires
 fresh-draft-requires c κs = search needs
 
 read-path-requires : tie.Need-read-path-requires
-read-path-requires c κs = fresh-ready (c .fresh-draft .ensures) (c .before .if1 .left)
+read-path-requires c κs = fresh-ready (c .fresh-draft .ensures) (short (c .before))
 
 refused-requires-2 : tie.Need-refused-requires-2
 refused-requires-2 c κs = search needs
@@ -35,7 +42,7 @@ returns-2 : tie.Need-returns-2
 returns-2 c =
     let r = c .before .before in
     let b = r .before .before .before .blank-steps .ensures in
-    let s = r .before .before .if1 .left in
+    let s = short (r .before .before) in
     let w = r .before .fresh-draft .ensures in
     no-tree b s (broken-follows w (r .read-path .ensures) (c .before .if2 .taken)) (c .refused2 .ensures)
 
@@ -54,7 +61,7 @@ returns-3 : tie.Need-returns-3
 returns-3 c =
     let r = c .before .before .before .before in
     let b = r .before .before .before .blank-steps .ensures in
-    let s = r .before .before .if1 .left in
+    let s = short (r .before .before) in
     let w = r .before .fresh-draft .ensures in
     no-tree b s (rest-follows w (r .read-path .ensures) (c .before .before .before .if2 .left) (omega arith)) (c .refused3 .ensures)
 
@@ -68,7 +75,7 @@ returns-4 : tie.Need-returns-4
 returns-4 c =
     let r = c .before .before .before .before .before .before .before in
     let b = r .before .before .before .blank-steps .ensures in
-    let s = r .before .before .if1 .left in
+    let s = short (r .before .before) in
     let w = r .before .fresh-draft .ensures in
     let h = all-held w (r .read-path .ensures) (c .before .before .before .before .before .before .if2 .left) (omega arith) in
     over-large b s (h .writes) (inl (omega (arith, h .count))) (c .refused4 .ensures)
@@ -83,7 +90,7 @@ returns-5 : tie.Need-returns-5
 returns-5 c =
     let r = c .before .before .before .before .before .before .before .before .before in
     let b = r .before .before .before .blank-steps .ensures in
-    let s = r .before .before .if1 .left in
+    let s = short (r .before .before) in
     let w = r .before .fresh-draft .ensures in
     let h = all-held w (r .read-path .ensures) (c .before .before .before .before .before .before .before .before .if2 .left) (omega arith) in
     over-large b s (h .writes) (inr (omega (arith, h .deepest))) (c .refused5 .ensures)
@@ -95,7 +102,7 @@ returns-6 : tie.Need-returns-6
 returns-6 c =
     let r = c .before .before .before .before .before .before .before .before .before in
     let h = all-held (r .before .fresh-draft .ensures) (r .read-path .ensures) (c .before .before .before .before .before .before .before .before .if2 .left) (omega arith) in
-    as-read (r .before .before .if1 .left) h (omega arith) (omega arith)
+    as-read (short (r .before .before)) h (omega arith) (omega arith)
 
 pub read-spec : {M : Type 1} → statement M
 read-spec =

@@ -57,7 +57,7 @@ returns-4 c =
 returns-5 : tie.Need-returns-5
 returns-5 c =
     let a = c .before .before .before .before .before .before .before .before .before .args in
-    run-length (a .text .now) (a .at) (c .before .name-run .result) (omega arith) (c .before .before .before .before .before .if2 .left) (c .before .before .before .if3 .left) (c .before .name-run .ensures ∙ whole-run (a .text .now) (a .at + 2)) (c .if4 .left)
+    run-length (a .text .now) (a .at) (c .before .name-run .result) (omega arith) (c .before .before .before .before .before .if2 .left) (c .before .before .before .if3 .left) (c .before .name-run .ensures ∙ whole-run (a .text .now) (a .at + 2)) (omega arith)
 
 pub step-length-spec : {M : Type 1} → statement M
 step-length-spec =

@@ -2,27 +2,16 @@
 use Prim.Native.Nat.{ℕ, _+_, _≤_, _<_}
 use native.Mathlib.Omega.{arith}
 use mathlib.Core.Path.{_≡_, refl, sym, _∙_, subst}
-use mathlib.Core.Bool.{Bool, true, false, true≢false, false≢true}
+use mathlib.Core.Bool.{Bool, true, false, true≢false}
 use mathlib.Core.List.{List}
-use lib.Dec.{eqb, ltb}
+use lib.Dec.{eqb}
 use lib.ListN.{length, drop, getD, drop-of-length-le}
-use borrow.Author.Tests.{ltb-true, ltb-false}
-use Rattle.meaning.specs.Answers.{Decides, holds, fails}
+use Rattle.meaning.specs.Answers.{Decides}
 use Rattle.meaning.proofs.Decide.{decides-as, eq-decides}
 use Rattle.meaning.proofs.Laws.Notation.{Stops}
 use Rattle.question.specs.declared.Draft.{Draft}
 use Rattle.question.specs.Reader.{moved, ShutAt, Closed, shut, unshut}
 use Rattle.question.proofs.Sizes.{byte-at, byte-is}
-
--- What a test says where it is true.
-pub decided : {P : Type 0} {b : Bool} → Decides P b → b ≡ true → P
-decided (holds p) e = p
-decided (fails n) e = absurd (false≢true e)
-
--- What a test says where it is false.
-pub refuted : {P : Type 0} {b : Bool} → Decides P b → b ≡ false → P → ⊥
-refuted (holds p) e = absurd (true≢false e)
-refuted (fails n) e = n
 
 -- A flag is not both set and not.
 pub not-both : {b : Bool} → b ≡ true → b ≡ false → ⊥
@@ -48,11 +37,7 @@ module _ (t : List ℕ) (at : ℕ) where
 
   -- Where no path can end, the text goes on.
   pub goes-on : (Stops (drop at t) → ⊥) → at < length t
-  goes-on none = go (ltb at (length t)) refl
-    where
-      go : (b : Bool) → ltb at (length t) ≡ b → at < length t
-      go true e = ltb-true at (length t) e
-      go false e = absurd (none (end-stops (ltb-false at (length t) e)))
+  goes-on none = let before : length t ≤ at → ⊥ = λ h. none (end-stops h) in omega (arith, before)
 
 -- A draft that moves past a `]` has left a bracket, unless it was broken before.
 pub left-shut : (t : List ℕ) (me : ℕ) (q : Draft) → ShutAt t (q .at) → Closed t me q (moved q (q .at + 1) me)

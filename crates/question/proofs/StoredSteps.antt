@@ -3,12 +3,9 @@ use Prim.Native.Nat.{ℕ, zero, suc, _+_, _≤_, _<_}
 use native.Mathlib.Omega.{arith}
 use mathlib.Core.Path.{_≡_, refl, sym, ap, _∙_, subst}
 use mathlib.Core.Logic.{inl, inr}
-use mathlib.Core.Bool.{Bool, true, false}
 use mathlib.Core.List.{List, [], _∷_, _++_}
-use lib.Dec.{ltb}
 use lib.ListN.{length, take, drop, getD, length-append, length-drop, List·getD-append}
 use lib.Seq.{drop-drop, take-append-seam}
-use borrow.Author.Tests.{ltb-true, ltb-false}
 use Rattle.meaning.specs.declared.Step.{Step}
 use Rattle.meaning.specs.Limits.{mostSteps, mostDepth}
 use Rattle.meaning.specs.Names.{Name}
@@ -86,14 +83,6 @@ pub record WasRead (text : List ℕ) (r : Reading) : Type 0 where
   pub question : r .question ≡ questionOf (writes .tree)
   pub each : (s : ℕ) → s < steps (writes .tree) → StoredAs text (getD (r .question .steps) s blankStep) (stepAt (writes .tree) s)
 
--- A number that another does not exceed.
-at-most : (m n : ℕ) → (m < n → ⊥) → n ≤ m
-at-most m n f = go (ltb m n) refl
-  where
-    go : (b : Bool) → ltb m n ≡ b → n ≤ m
-    go true e = absurd (f (ltb-true m n e))
-    go false e = ltb-false m n e
-
 -- No refusal has the number 0.
 number-some : (text : List ℕ) (n : ℕ) → Given (readTable text) n → 0 < n
 number-some text n g = above (readTable text) 0 (omega arith, (omega arith, (omega arith, tt))) n (given-applies (readTable text) n g)
@@ -103,10 +92,12 @@ pub was-read : (text : List ℕ) (r : Reading) → ReadAs text r → r .refusal 
 was-read text r (refused g e) z = absurd (omega (arith, number-some text _ g, ap (λ (x : Reading). x .refusal) e))
 was-read text r (read c f e) z =
     let same = ap (λ (x : Reading). x .question) e in
+    let no-more : mostSteps < steps (f .tree) → ⊥ = λ h. c .1 .1 .0 (f, inl h) in
+    let no-deeper : mostDepth < depth (f .tree) → ⊥ = λ h. c .1 .1 .0 (f, inr h) in
     record {
       writes = f;
-      few = at-most mostSteps (steps (f .tree)) (λ h. c .1 .1 .0 (f, inl h));
-      shallow = at-most mostDepth (depth (f .tree)) (λ h. c .1 .1 .0 (f, inr h));
+      few = omega (arith, no-more);
+      shallow = omega (arith, no-deeper);
       question = same;
       each = λ s h. rw same (stored-step f s h);
     }

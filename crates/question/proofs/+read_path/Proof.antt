@@ -9,9 +9,10 @@ use borrow.Fn.PlainCycle.{Measures, is, falls, and}
 use lib.ListN.{length, drop}
 use Rattle.meaning.specs.Limits.{mostText}
 use Rattle.meaning.proofs.Laws.Notation.{Stops}
+use Rattle.meaning.proofs.Decide.{if-not-true, if-not-false}
 use Rattle.question.specs.Reader.{moved}
 use Rattle.question.proofs.Sizes.{byte-at, byte-is}
-use Rattle.question.proofs.Closing.{decided, refuted, not-both, goes-on}
+use Rattle.question.proofs.Closing.{not-both, goes-on}
 use Rattle.question.proofs.Turns.{Going, State, still-on, remaining, remaining-falls, step-moves, start, bracket-ready, next-ready, again-bracket, bracket-moves, again-next, ended}
 use Rattle.question.proofs.read_path.Reads as read-path
 use Rattle.question.proofs.read_path.Kinds as kinds
@@ -72,7 +73,7 @@ module _ (t : ℕ) (v : lts.Then2 (claims t) (at-measure t) read-path.Post Inv-l
 
   -- No path can end here.
   no-end : Stops (drop (test .loop .d .at) text) → ⊥
-  no-end = refuted (v .before .ends .ensures) (not-true _ (v .if2 .taken))
+  no-end = if-not-true (v .before .ends .ensures) (v .if2 .taken)
 
   -- The text goes on.
   in-text : test .loop .d .at < length text
@@ -133,7 +134,7 @@ loop-again-2 t c =
 returns : (t : ℕ) → lts.Need-returns (claims t) (at-measure t) read-path.Post Inv-loop μ-loop
 returns t c =
     let l = c .before .before .before .before .before in
-    ended (l .before .before .before .pre .1 .sound) (l .before .step .ensures) (l .loop .inv) (λ e. decided (c .before .ends .ensures) (not-false _ (c .if2 .left)))
+    ended (l .before .before .before .pre .1 .sound) (l .before .step .ensures) (l .loop .inv) (λ e. if-not-false (c .before .ends .ensures) (c .if2 .left))
 
 returns-2 : (t : ℕ) → lts.Need-returns-2 (claims t) (at-measure t) read-path.Post Inv-loop μ-loop
 returns-2 t c =

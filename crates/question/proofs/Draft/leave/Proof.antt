@@ -2,10 +2,10 @@
 use borrow.Author.Needs.{needs}
 use native.Mathlib.Omega.{arith}
 use mathlib.Core.Path.{refl}
-use borrow.Author.Tests.{not-true, not-false}
+use Rattle.meaning.proofs.Decide.{if-not-true, if-not-false}
 use Rattle.question.specs.Reader.{moved, unshut}
 use Rattle.question.proofs.Sizes.{byte-is}
-use Rattle.question.proofs.Closing.{decided, refuted, left-shut}
+use Rattle.question.proofs.Closing.{left-shut}
 use Rattle.question.proofs.Draft.leave.Statement.{statement}
 use Rattle.question.proofs.Draft.leave.Tie as tie
 
@@ -16,18 +16,18 @@ shuts-requires : tie.Need-shuts-requires
 shuts-requires c κs = search needs
 
 returns : tie.Need-returns
-returns c = unshut refl (λ f s. refuted (c .before .shuts .ensures) (not-true _ (c .if1 .taken)) s)
+returns c = unshut refl (λ f s. if-not-true (c .before .shuts .ensures) (c .if1 .taken) s)
 
 add-self : tie.Need-add-self
 add-self c =
     let a = c .before .before .before .before .before .args in
-    omega (arith, byte-is (a .text .now) (a .self .at) 93 _ (decided (c .before .before .shuts .ensures) (not-false _ (c .before .if1 .left))) .0)
+    omega (arith, byte-is (a .text .now) (a .self .at) 93 _ (if-not-false (c .before .before .shuts .ensures) (c .before .if1 .left)) .0)
 
 returns-2 : tie.Need-returns-2
 unfolding moved
 returns-2 c =
     let a = c .before .before .before .before .before .args in
-    left-shut (a .text .now) (a .me) (a .self) (decided (c .before .before .shuts .ensures) (not-false _ (c .before .if1 .left)))
+    left-shut (a .text .now) (a .me) (a .self) (if-not-false (c .before .before .shuts .ensures) (c .before .if1 .left))
 
 pub leave-spec : {M : Type 1} → statement M
 leave-spec = tie.close (tie.spec cast-shuts shuts-requires returns add-self returns-2)

@@ -11,7 +11,7 @@ use lib.Seq.{ext-getD, getD-append-add, getD-take, length-take-le}
 use Rattle.meaning.specs.Limits.{mostName}
 use Rattle.meaning.specs.Names.{initial, further, isName, Name, filled, Sooner}
 use Rattle.meaning.specs.Day.{rowAt, nameField}
-use Rattle.meaning.proofs.Laws.Name.{NoFurther}
+use Rattle.meaning.specs.Ends.{NoFurther}
 use Rattle.name.specs.Runs.{nameRun}
 use Rattle.name.proofs.RunLaws.{run-name, run-of-name, run-within}
 use Rattle.contents.specs.Tests.{ZeroFrom, Named}

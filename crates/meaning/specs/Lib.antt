@@ -11,4 +11,5 @@ pub mod Refusals
 pub mod Promises
 pub mod Answers
 pub mod Fit
+pub mod Ends
 pub mod Printing

@@ -11,7 +11,7 @@ use lib.Seq.{drop-cons, length-take-le}
 use borrow.Author.Tests.{le-leb}
 use Rattle.meaning.specs.Limits.{mostName}
 use Rattle.meaning.specs.Names.{initial, further, allFurther, short, isName, Name}
-use Rattle.meaning.proofs.Laws.Name.{NoFurther}
+use Rattle.meaning.specs.Ends.{NoFurther}
 use Rattle.name.specs.Runs.{run, nameRun}
 
 -- A text whose first byte may begin a name has a run of one more than the characters behind it.
@@ -51,18 +51,18 @@ module _ (s : List ℕ) (i : ℕ) where
 
 -- What is known of the first n bytes of a text and of what follows them: n is within the text, the bytes may all stand behind a name's
 -- first, and what follows them may not.
-record Reach (n : ℕ) (s : List ℕ) : Type 0 where
+record RunReach (n : ℕ) (s : List ℕ) : Type 0 where
   within : n ≤ length s
   inside : allFurther (take n s) ≡ true
   after : NoFurther (drop n s)
 
 -- The run reaches so far.
-run-reach : (s : List ℕ) → Reach (run s) s
+run-reach : (s : List ℕ) → RunReach (run s) s
 unfolding run allFurther
 run-reach [] = record { within = omega arith; inside = refl; after = tt }
 run-reach (c ∷ cs) = go (further c) refl (run-reach cs)
   where
-    go : (v : Bool) → further c ≡ v → Reach (run cs) cs → Reach (cond v (suc (run cs)) 0) (c ∷ cs)
+    go : (v : Bool) → further c ≡ v → RunReach (run cs) cs → RunReach (cond v (suc (run cs)) 0) (c ∷ cs)
     go true e h = record {
       within = omega (arith, h .within);
       inside = and-eq-true-iff (further c) (allFurther (take (run cs) cs)) .1 (e, h .inside);

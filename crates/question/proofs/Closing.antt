@@ -8,9 +8,9 @@ use lib.Dec.{eqb}
 use lib.ListN.{length, drop, getD, drop-of-length-le}
 use Rattle.meaning.specs.Answers.{Decides}
 use Rattle.meaning.proofs.Decide.{decides-as, eq-decides}
-use Rattle.meaning.proofs.Laws.Notation.{Stops}
+use Rattle.meaning.specs.Ends.{Stops}
 use Rattle.question.specs.declared.Draft.{Draft}
-use Rattle.question.specs.Reader.{moved, ShutAt, Closed, shut, unshut}
+use Rattle.question.specs.Reader.{moved, ShutAt, LeftBracket, shut, unshut}
 use Rattle.question.proofs.Sizes.{byte-at, byte-is}
 
 -- A flag is not both set and not.
@@ -40,10 +40,10 @@ module _ (t : List ℕ) (at : ℕ) where
   goes-on none = let before : length t ≤ at → ⊥ = λ h. none (end-stops h) in omega (arith, before)
 
 -- A draft that moves past a `]` has left a bracket, unless it was broken before.
-pub left-shut : (t : List ℕ) (me : ℕ) (q : Draft) → ShutAt t (q .at) → Closed t me q (moved q (q .at + 1) me)
+pub left-shut : (t : List ℕ) (me : ℕ) (q : Draft) → ShutAt t (q .at) → LeftBracket t me q (moved q (q .at + 1) me)
 unfolding moved
 left-shut t me q h = go (q .broken) refl
   where
-    go : (b : Bool) → q .broken ≡ b → Closed t me q (moved q (q .at + 1) me)
+    go : (b : Bool) → q .broken ≡ b → LeftBracket t me q (moved q (q .at + 1) me)
     go true e = unshut e (λ f s. not-both e f)
     go false e = shut e h refl

@@ -10,11 +10,12 @@ use lib.ListN.{length, take, drop, getD, take-append-drop, length-append, length
 use lib.Seq.{drop-cons, drop-drop, getD-drop, length-take-le, take-all}
 use Rattle.meaning.specs.Limits.{mostName}
 use Rattle.meaning.specs.Names.{isName, Name}
-use Rattle.meaning.proofs.Laws.Name.{NoFurther, name-short}
+use Rattle.meaning.specs.Ends.{NoFurther}
+use Rattle.meaning.proofs.Laws.Name.{name-short}
 use Rattle.name.specs.Runs.{nameRun}
 use Rattle.name.proofs.RunLaws.{run-within, run-name, run-after, run-of-name}
 use Rattle.question.specs.declared.Draft.{Draft}
-use Rattle.question.specs.Reader.{grown, Space, Ready, FoundStep, NoStep, LengthAt, long, none, StepRead, taken}
+use Rattle.question.specs.Reader.{grown, Space, MayRead, FoundStep, NoStep, LengthAt, long, none, StepRead, taken}
 
 -- The rest of a text from place k on, by its length, has the run that it has.
 pub whole-run : (t : List ℕ) (k : ℕ) → nameRun (take (length t - k) (drop k t)) ≡ nameRun (drop k t)
@@ -83,7 +84,7 @@ some-length (long p f) e = f
 some-length (none z n) e = absurd (e z)
 
 -- The step that stands there has room in the draft.
-pub step-room : {t : List ℕ} {hang d k : ℕ} {q : Draft} → Ready t hang d q → FoundStep t (q .at) (q .at + 2 + k) → Space k hang q
+pub step-room : {t : List ℕ} {hang d k : ℕ} {q : Draft} → MayRead t hang d q → FoundStep t (q .at) (q .at + 2 + k) → Space k hang q
 step-room h f = record {
   room = h .room;
   few = omega (arith, h .few, h .short, f .within);

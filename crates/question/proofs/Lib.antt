@@ -3,7 +3,7 @@ pub mod Fixed
 pub mod Sizes
 pub mod Drafts
 pub mod Reaching
-pub mod Turns
+pub mod PathLoop
 pub mod Lengths
 pub mod Closing
 pub mod Texts

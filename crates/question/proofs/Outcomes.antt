@@ -13,7 +13,7 @@ use Rattle.question.specs.declared.Draft.{Draft}
 use Rattle.question.specs.declared.Reading.{Reading}
 use Rattle.question.specs.Stored.{filledUp, blankQuestion}
 use Rattle.question.specs.Promise.{ReadAs, refused, read}
-use Rattle.question.proofs.Texts.{Held}
+use Rattle.question.proofs.Texts.{HoldsTree}
 
 -- A refusal by the number n, which hands back the entries b and no step.
 abbrev refusal : ℕ → List Step → Reading
@@ -43,7 +43,7 @@ small f s d (g, inl h) = omega (arith, ap steps (one-tree f g))
 small f s d (g, inr h) = omega (arith, ap depth (one-tree f g))
 
 -- Any other text is read: the draft holds the question of its tree.
-pub as-read : {t : List ℕ} {q : Draft} → length t ≤ mostText → (h : Held t q) → q .count ≤ mostSteps → q .deepest ≤ mostDepth → ReadAs t (record { refusal = 0; question = record { steps = q .steps; count = q .count; returned = q .last } })
+pub as-read : {t : List ℕ} {q : Draft} → length t ≤ mostText → (h : HoldsTree t q) → q .count ≤ mostSteps → q .deepest ≤ mostDepth → ReadAs t (record { refusal = 0; question = record { steps = q .steps; count = q .count; returned = q .last } })
 as-read {t} {q} s h c d =
     let f = h .writes in
     read (λ l. omega arith, (λ n. n f, (small f (omega (arith, h .count)) (omega (arith, h .deepest)), tt))) f (rw (h .kept c, h .count, h .last))

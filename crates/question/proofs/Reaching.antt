@@ -5,8 +5,9 @@ use mathlib.Core.Path.{_≡_, refl, sym, ap, _∙_, subst}
 use mathlib.Core.List.{List, _∷_, _++_}
 use lib.ListN.{drop}
 use Rattle.meaning.specs.Notation.{Path, path, After, finish, bracket, next, write, writeAfter, Named, NamedAfter, depth, lastStep}
+use Rattle.meaning.specs.Ends.{Stops}
 use Rattle.meaning.proofs.Laws.Name.{name-same}
-use Rattle.meaning.proofs.Laws.Notation.{Stops, after-no-further, same-path}
+use Rattle.meaning.proofs.Laws.Notation.{after-no-further, same-path}
 use Rattle.question.specs.declared.Draft.{Draft}
 use Rattle.question.specs.Stored.{size, stored}
 use Rattle.question.specs.Reader.{moved, grown, followed, walked, stepped, FoundStep, NoStep, ShutAt, Reach, ReachPath}

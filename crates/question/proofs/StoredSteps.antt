@@ -1,22 +1,16 @@
--- What a caller of `read` knows of a text that is not refused: its tree, and each step that was kept.
+-- What a caller of `read` knows of the steps that were kept: each is that step of the text's tree.
 use Prim.Native.Nat.{ℕ, zero, suc, _+_, _≤_, _<_}
 use native.Mathlib.Omega.{arith}
 use mathlib.Core.Path.{_≡_, refl, sym, ap, _∙_, subst}
-use mathlib.Core.Logic.{inl, inr}
 use mathlib.Core.List.{List, [], _∷_, _++_}
 use lib.ListN.{length, take, drop, getD, length-append, length-drop, List·getD-append}
 use lib.Seq.{drop-drop, take-append-seam}
 use Rattle.meaning.specs.declared.Step.{Step}
-use Rattle.meaning.specs.Limits.{mostSteps, mostDepth}
 use Rattle.meaning.specs.Names.{Name}
 use Rattle.meaning.specs.Notation as notation
-use Rattle.meaning.specs.Notation.{Path, path, After, finish, bracket, next, Hook, nothing, from, write, writeAfter, Named, NamedAfter, Follows, steps, depth, list, listAfter}
+use Rattle.meaning.specs.Notation.{Path, path, After, finish, bracket, next, Hook, nothing, from, write, writeAfter, Named, NamedAfter, Follows, steps, list, listAfter}
 use Rattle.meaning.specs.Picks.{stepAt}
-use Rattle.meaning.specs.Refusals.{Given}
-use Rattle.meaning.proofs.Laws.Table.{given-applies, above}
-use Rattle.question.specs.declared.Reading.{Reading}
 use Rattle.question.specs.Stored.{hookNumber, size, stored, storedAfter, blankStep, questionOf}
-use Rattle.question.specs.Promise.{readTable, ReadAs, refused, read}
 use Rattle.question.proofs.Sizes.{stored-long, cut-byte, cut-text, cut-path}
 
 -- The stored step x is the tree's step y: it lies in the text, its part of the text is the name, and it hangs from what y hangs from.
@@ -74,30 +68,3 @@ stored-step {text} f s h =
     let short : s < length xs = omega (arith, stored-long (f .tree) nothing 0 0) in
     let here = stored-at (path-stored text (f .tree) nothing 0 0 [] (f .named) (sym (f .written))) s blankStep (record { name = []; hook = nothing }) short in
     subst (λ (x : Step). StoredAs text x (stepAt (f .tree) s)) (sym (List·getD-append xs _ blankStep s short)) here
-
--- A text that is not refused: a tree writes it that is not too large, its question is handed back, and each step of that is the tree's.
-pub record WasRead (text : List ℕ) (r : Reading) : Type 0 where
-  pub writes : Follows text
-  pub few : steps (writes .tree) ≤ mostSteps
-  pub shallow : depth (writes .tree) ≤ mostDepth
-  pub question : r .question ≡ questionOf (writes .tree)
-  pub each : (s : ℕ) → s < steps (writes .tree) → StoredAs text (getD (r .question .steps) s blankStep) (stepAt (writes .tree) s)
-
--- No refusal has the number 0.
-number-some : (text : List ℕ) (n : ℕ) → Given (readTable text) n → 0 < n
-number-some text n g = above (readTable text) 0 (omega arith, (omega arith, (omega arith, tt))) n (given-applies (readTable text) n g)
-
--- Where reading gives 0 the text was read.
-pub was-read : (text : List ℕ) (r : Reading) → ReadAs text r → r .refusal ≡ 0 → WasRead text r
-was-read text r (refused g e) z = absurd (omega (arith, number-some text _ g, ap (λ (x : Reading). x .refusal) e))
-was-read text r (read c f e) z =
-    let same = ap (λ (x : Reading). x .question) e in
-    let no-more : mostSteps < steps (f .tree) → ⊥ = λ h. c .1 .1 .0 (f, inl h) in
-    let no-deeper : mostDepth < depth (f .tree) → ⊥ = λ h. c .1 .1 .0 (f, inr h) in
-    record {
-      writes = f;
-      few = omega (arith, no-more);
-      shallow = omega (arith, no-deeper);
-      question = same;
-      each = λ s h. rw same (stored-step f s h);
-    }

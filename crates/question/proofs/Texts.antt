@@ -12,7 +12,7 @@ use Rattle.meaning.specs.Limits.{mostText, mostSteps}
 use Rattle.meaning.specs.Notation.{Path, path, nothing, from, write, Follows, steps, depth, lastStep, returnedStep, NotFollowing}
 use Rattle.question.specs.declared.Draft.{Draft}
 use Rattle.question.specs.Stored.{size, stored, blankStep, filledUp}
-use Rattle.question.specs.Reader.{fresh, grown, walked, Ready, ReachPath, PathRead, whole, torn}
+use Rattle.question.specs.Reader.{fresh, grown, walked, MayRead, ReachPath, PathRead, whole, torn}
 use Rattle.question.proofs.Sizes.{write-before, stored-long, cut-path}
 use Rattle.question.proofs.Closing.{not-both}
 use Rattle.question.proofs.Reaching.{one-path}
@@ -65,9 +65,9 @@ unfolding fresh
 as-fresh e = ap (λ (b : List Step). record { steps = b; count = 0; deepest = 0; at = 0; last = 0; broken = false }) e
 
 -- It is ready for a first step that hangs from nothing.
-pub fresh-ready : {t : List ℕ} {q : Draft} → q ≡ fresh → length t ≤ mostText → Ready t 255 0 q
+pub fresh-ready : {t : List ℕ} {q : Draft} → q ≡ fresh → length t ≤ mostText → MayRead t 255 0 q
 unfolding fresh
-fresh-ready {t} {q} e h = subst (λ (x : Draft). Ready t 255 0 x) (sym e) (record {
+fresh-ready {t} {q} e h = subst (λ (x : Draft). MayRead t 255 0 x) (sym e) (record {
   sound = refl;
   short = h;
   room = refl;
@@ -78,7 +78,7 @@ fresh-ready {t} {q} e h = subst (λ (x : Draft). Ready t 255 0 x) (sym e) (recor
 })
 
 -- The whole text was read: a tree writes it, and the draft holds what is known of the tree.
-pub record Held (t : List ℕ) (q : Draft) : Type 0 where
+pub record HoldsTree (t : List ℕ) (q : Draft) : Type 0 where
   pub writes : Follows t
   pub count : q .count ≡ steps (writes .tree)
   pub deepest : q .deepest ≡ depth (writes .tree)
@@ -98,7 +98,7 @@ path-within {t} {hang} {d} {q} {r} p h =
     omega (arith, long, length-append (write (p .tree) []) (drop (r .at) t), length-drop (q .at) t, length-drop (r .at) t)
 
 -- A path that ends at the text's end is the whole text.
-path-held : {t : List ℕ} {q : Draft} → ReachPath t 255 0 fresh q → length t ≤ q .at → Held t q
+path-held : {t : List ℕ} {q : Draft} → ReachPath t 255 0 fresh q → length t ≤ q .at → HoldsTree t q
 unfolding grown
 path-held {t} {q} r h =
     let p = r .tree in
@@ -159,5 +159,5 @@ module _ {t : List ℕ} {q₀ q : Draft} (w : q₀ ≡ fresh) (r : PathRead t 25
   rest-follows e h f = omega (arith, ap (λ (x : Draft). x .at) (one-path t (some-path e) (parsed f .1 .0)), parsed f .1 .1)
 
   -- A path that ends at the text's end is the whole text.
-  pub all-held : q .broken ≡ false → length t ≤ q .at → Held t q
+  pub all-held : q .broken ≡ false → length t ≤ q .at → HoldsTree t q
   all-held e h = path-held (some-path e) h

@@ -9,8 +9,7 @@ use Rattle.meaning.specs.declared.Step.{Step}
 use Rattle.meaning.specs.Limits.{mostName, mostText, mostSteps}
 use Rattle.meaning.specs.Names.{Name}
 use Rattle.meaning.specs.Notation.{Path, After, from, write, writeAfter, Named, NamedAfter, depth, depthAfter, lastStep, lastAfter}
-use Rattle.meaning.proofs.Laws.Name.{NoFurther}
-use Rattle.meaning.proofs.Laws.Notation.{Stops}
+use Rattle.meaning.specs.Ends.{NoFurther, Stops}
 use Rattle.question.specs.declared.Draft.{Draft}
 use Rattle.question.specs.Stored.{size, stored, storedAfter, filledUp}
 
@@ -58,7 +57,7 @@ pub record Space (bytes hang : ℕ) (q : Draft) : Type 0 where
 -- What is asked where the reading goes on, d brackets deep, with a step that hangs from number `hang`: the text is whole so far and not
 -- too long, the draft has 32 entries and is within the text, each of its steps and each open bracket has taken a byte, and the number
 -- fits its field where the step will be kept.
-pub record Ready (t : List ℕ) (hang d : ℕ) (q : Draft) : Type 0 where
+pub record MayRead (t : List ℕ) (hang d : ℕ) (q : Draft) : Type 0 where
   pub sound : q .broken ≡ false
   pub short : length t ≤ mostText
   pub room : length (q .steps) ≡ mostSteps
@@ -96,9 +95,9 @@ ShutAt t at = drop at t ≡ 93 ∷ drop (at + 1) t
 
 -- Leaving a bracket gives r: the draft behind the `]`, back in the path of step `me`, or a broken one where the draft was broken or no
 -- `]` stands.
-pub data Closed (t : List ℕ) (me : ℕ) (q r : Draft) : Type 0 where
-  shut : q .broken ≡ false → ShutAt t (q .at) → r ≡ moved q (q .at + 1) me → Closed t me q r
-  unshut : r .broken ≡ true → (q .broken ≡ false → ShutAt t (q .at) → ⊥) → Closed t me q r
+pub data LeftBracket (t : List ℕ) (me : ℕ) (q r : Draft) : Type 0 where
+  shut : q .broken ≡ false → ShutAt t (q .at) → r ≡ moved q (q .at + 1) me → LeftBracket t me q r
+  unshut : r .broken ≡ true → (q .broken ≡ false → ShutAt t (q .at) → ⊥) → LeftBracket t me q r
 
 -- From q on the text has what follows the name of step `last`, in d brackets, up to where q′ is.
 pub record Reach (t : List ℕ) (d : ℕ) (q q′ : Draft) : Type 0 where

@@ -9,10 +9,10 @@ ghost use Prim.Native.Nat.{_+_, _≤_, _<_};
 ghost use lib.ListN.{length, take, drop};
 ghost use Rattle.meaning.specs.Answers.{Decides};
 ghost use Rattle.meaning.specs.Limits.{mostText};
-ghost use Rattle.meaning.proofs.Laws.Notation.{Stops};
+ghost use Rattle.meaning.specs.Ends.{Stops};
 ghost use Rattle.question.specs.Stored.{filledUp};
 ghost use Rattle.question.specs.Promise.{ReadAs};
-ghost use Rattle.question.specs.Reader.{fresh, grown, Space, Ready, LengthAt, StepRead, ShutAt, Closed, PathRead};
+ghost use Rattle.question.specs.Reader.{fresh, grown, Space, MayRead, LengthAt, StepRead, ShutAt, LeftBracket, PathRead};
 
 // What reading gives: the refusal number, or 0 and the question.
 pub struct Reading {
@@ -104,7 +104,7 @@ impl Draft {
 
     // Reads the step that must stand here, in `depth` brackets, which hangs from step `hang`.
     fn step(mut self, text: &[u8], hang: u16, depth: u16) -> Draft
-        requires { ⌜ Ready (now text) hang depth self ⌝ }
+        requires { ⌜ MayRead (now text) hang depth self ⌝ }
         ensures { λ r. ⌜ StepRead (now (text .entry)) hang depth self r ⌝ }
     {
         let length = step_length(text, self.at as usize);
@@ -118,7 +118,7 @@ impl Draft {
     // Leaves a bracket by the `]` that must stand here: the path of step `me` goes on.
     fn leave(mut self, text: &[u8], me: u16) -> Draft
         requires { ⌜ length (now text) ≤ mostText ⌝ }
-        ensures { λ r. ⌜ Closed (now (text .entry)) me self r ⌝ }
+        ensures { λ r. ⌜ LeftBracket (now (text .entry)) me self r ⌝ }
     {
         if !shuts(text, self.at as usize) {
             self.broken = true; // No `]` stands here.
@@ -132,7 +132,7 @@ impl Draft {
 
 // Reads a path in `depth` brackets, whose first step hangs from step `hang`. What falls from call to call is the bytes left.
 fn read_path(text: &[u8], hang: u16, depth: u16, mut d: Draft) -> Draft
-    requires { ⌜ Ready (now text) hang depth d ⌝ }
+    requires { ⌜ MayRead (now text) hang depth d ⌝ }
     ensures { λ r. ⌜ PathRead (now (text .entry)) hang depth d r ⌝ }
 {
     d = d.step(text, hang, depth);

@@ -8,11 +8,7 @@ use lib.ListN.{length}
 use borrow.Author.Tests.{leb-true}
 use Rattle.meaning.specs.Limits.{mostName}
 use Rattle.meaning.specs.Names.{initial, further, allFurther, short, isName, Name, Sooner}
-
--- The text does not go on with a character of a name: it is at its end, or its first byte may not stand in a name.
-abbrev pub NoFurther : List ℕ → Type 0
-NoFurther [] = Unit
-NoFurther (c ∷ cs) = further c ≡ false
+use Rattle.meaning.specs.Ends.{NoFurther}
 
 -- A name's first character may also stand behind the first.
 pub initial-further : (c : ℕ) → initial c ≡ true → further c ≡ true

@@ -6,12 +6,8 @@ use native.Mathlib.Omega.{arith}
 use lib.ListN.{getD, drop}
 use Rattle.meaning.specs.Names.{initial, further}
 use Rattle.meaning.specs.Notation.{Path, path, After, finish, bracket, next, write, writeAfter, Named, NamedAfter, Follows}
-use Rattle.meaning.proofs.Laws.Name.{NoFurther, name-same}
-
--- A path ends before this text: it is empty, or it goes on with `]`.
-abbrev pub Stops : List ℕ → Type 0
-Stops [] = Unit
-Stops (c ∷ cs) = c ≡ 93
+use Rattle.meaning.specs.Ends.{NoFurther, Stops}
+use Rattle.meaning.proofs.Laws.Name.{name-same}
 
 -- Where a path ends, no name goes on.
 pub stops-no-further : (r : List ℕ) → Stops r → NoFurther r

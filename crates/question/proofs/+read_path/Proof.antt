@@ -8,12 +8,12 @@ use borrow.Fn.Kinds.{In}
 use borrow.Fn.PlainCycle.{Measures, is, falls, and}
 use lib.ListN.{length, drop}
 use Rattle.meaning.specs.Limits.{mostText}
-use Rattle.meaning.proofs.Laws.Notation.{Stops}
+use Rattle.meaning.specs.Ends.{Stops}
 use Rattle.meaning.proofs.Decide.{if-not-true, if-not-false}
 use Rattle.question.specs.Reader.{moved}
 use Rattle.question.proofs.Sizes.{byte-at, byte-is}
 use Rattle.question.proofs.Closing.{not-both, goes-on}
-use Rattle.question.proofs.Turns.{Going, State, still-on, remaining, remaining-falls, step-moves, start, bracket-ready, next-ready, again-bracket, bracket-moves, again-next, ended}
+use Rattle.question.proofs.PathLoop.{Going, PathState, still-on, remaining, remaining-falls, step-moves, start, bracket-ready, next-ready, again-bracket, bracket-moves, again-next, ended}
 use Rattle.question.proofs.read_path.Reads as read-path
 use Rattle.question.proofs.read_path.Kinds as kinds
 use Rattle.question.proofs.+read_path.Lts-read_path as lts
@@ -40,7 +40,7 @@ abbrev claims : ℕ → lts.Claims
 claims t = (step-reads.Asked, step-reads.Learnt, ends-reads.Asked, ends-reads.Learnt, below t, read-path.Post, leave-reads.Asked, leave-reads.Learnt)
 
 abbrev Inv-loop : lts.InvT-loop
-Inv-loop text hang depth d₀ d = State text depth d₀ d
+Inv-loop text hang depth d₀ d = PathState text depth d₀ d
 
 abbrev μ-loop : lts.MeasureT-loop
 μ-loop text hang depth d₀ d = remaining text d

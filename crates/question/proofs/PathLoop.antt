@@ -8,11 +8,11 @@ use lib.ListN.{length, drop}
 use lib.Seq.{length-sets}
 use Rattle.meaning.specs.Limits.{mostText, mostSteps}
 use Rattle.meaning.specs.Notation.{from, steps, depth}
-use Rattle.meaning.proofs.Laws.Notation.{Stops}
+use Rattle.meaning.specs.Ends.{Stops}
 use Rattle.meaning.proofs.Laws.Step.{steps-some}
 use Rattle.question.specs.declared.Draft.{Draft}
 use Rattle.question.specs.Stored.{size}
-use Rattle.question.specs.Reader.{moved, grown, stepped, Ready, FoundStep, StepRead, taken, missing, ShutAt, Closed, shut, unshut, Reach, ReachPath, PathRead, whole, torn}
+use Rattle.question.specs.Reader.{moved, grown, stepped, MayRead, FoundStep, StepRead, taken, missing, ShutAt, LeftBracket, shut, unshut, Reach, ReachPath, PathRead, whole, torn}
 use Rattle.question.proofs.Sizes.{steps-size, stored-long, byte-is}
 use Rattle.question.proofs.Closing.{not-both}
 use Rattle.question.proofs.Reaching.{one-path, at-end, from-next, to-next, from-bracket, to-bracket, shut-path, open-path, no-path}
@@ -32,12 +32,12 @@ pub record Going (t : List ℕ) (d : ℕ) (q₀ q : Draft) : Type 0 where
   pub back : (x : Draft) → Reach t d q x → Reach t d q₀ x
 
 -- The loop's invariant: it goes on, or it has found that nothing is reached from where it began.
-pub data State (t : List ℕ) (d : ℕ) (q₀ q : Draft) : Type 0 where
-  on : Going t d q₀ q → State t d q₀ q
-  lost : q .broken ≡ true → (q₀ .broken ≡ false → (x : Draft) → Reach t d q₀ x → ⊥) → State t d q₀ q
+pub data PathState (t : List ℕ) (d : ℕ) (q₀ q : Draft) : Type 0 where
+  on : Going t d q₀ q → PathState t d q₀ q
+  lost : q .broken ≡ true → (q₀ .broken ≡ false → (x : Draft) → Reach t d q₀ x → ⊥) → PathState t d q₀ q
 
 -- A loop that has found nothing broken goes on.
-pub still-on : {t : List ℕ} {d : ℕ} {q₀ q : Draft} → State t d q₀ q → q .broken ≡ false → Going t d q₀ q
+pub still-on : {t : List ℕ} {d : ℕ} {q₀ q : Draft} → PathState t d q₀ q → q .broken ≡ false → Going t d q₀ q
 still-on (on g) e = g
 still-on (lost b n) e = absurd (not-both b e)
 
@@ -102,7 +102,7 @@ step-moves {t} {hang} {d} {q} {r} (taken f w) e = behind-step hang d q r f w .mo
 step-moves (missing b n) e = absurd (not-both b e)
 
 -- Where the loop begins: behind the first step, if one stands there.
-pub start : {t : List ℕ} {hang d : ℕ} {q r : Draft} → Ready t hang d q → StepRead t hang d q r → State t d r r
+pub start : {t : List ℕ} {hang d : ℕ} {q r : Draft} → MayRead t hang d q → StepRead t hang d q r → PathState t d r r
 unfolding grown
 start {t} {hang} {d} {q} {r} h (taken f w) =
     let b = behind-step hang d q r f w in
@@ -125,7 +125,7 @@ start h (missing b n) = lost b (λ e. absurd (not-both b e))
 -- The loop at q.
 module _ {t : List ℕ} {d : ℕ} {q₀ q : Draft} (g : Going t d q₀ q) where
   -- What a path in a bracket here asks.
-  pub bracket-ready : {hang e : ℕ} → length t ≤ mostText → q .at < length t → e ≤ q .at + 1 → (q .count < mostSteps → hang < 256) → Ready t hang e (moved q (q .at + 1) (q .last))
+  pub bracket-ready : {hang e : ℕ} → length t ≤ mostText → q .at < length t → e ≤ q .at + 1 → (q .count < mostSteps → hang < 256) → MayRead t hang e (moved q (q .at + 1) (q .last))
   unfolding moved
   bracket-ready s h k n = record {
     sound = g .sound;
@@ -138,7 +138,7 @@ module _ {t : List ℕ} {d : ℕ} {q₀ q : Draft} (g : Going t d q₀ q) where
   }
 
   -- What a further step here asks.
-  pub next-ready : length t ≤ mostText → Ready t (q .last) d q
+  pub next-ready : length t ≤ mostText → MayRead t (q .last) d q
   next-ready s = record {
     sound = g .sound;
     short = s;
@@ -175,7 +175,7 @@ module _ {t : List ℕ} {d : ℕ} {q₀ q : Draft} (g : Going t d q₀ q) where
       }
 
   -- A turn with a bracket.
-  bracket-turn : {p r : Draft} → drop (q .at) t ≡ 91 ∷ drop (q .at + 1) t → PathRead t (q .last) (d + 1) (moved q (q .at + 1) (q .last)) p → Closed t (q .last) p r → State t d q₀ r
+  bracket-turn : {p r : Draft} → drop (q .at) t ≡ 91 ∷ drop (q .at + 1) t → PathRead t (q .last) (d + 1) (moved q (q .at + 1) (q .last)) p → LeftBracket t (q .last) p r → PathState t d q₀ r
   unfolding moved
   bracket-turn e (whole y) (shut s z w) = on (bracket-on e y z w)
   bracket-turn {p} e (whole y) (unshut b n) = lost b (λ _ x l.
@@ -185,20 +185,20 @@ module _ {t : List ℕ} {d : ℕ} {q₀ q : Draft} (g : Going t d q₀ q) where
   bracket-turn e (torn b n) (unshut c m) = lost c (λ _ x l. n _ (to-bracket t e (g .to x l) .walk))
 
   -- The same, where what the path hangs from and how deep it is are given by numbers that have to be the right ones.
-  pub again-bracket : {hang deeper : ℕ} {p r : Draft} → drop (q .at) t ≡ 91 ∷ drop (q .at + 1) t → PathRead t hang deeper (moved q (q .at + 1) (q .last)) p → Closed t (q .last) p r → hang ≡ q .last → deeper ≡ d + 1 → State t d q₀ r
+  pub again-bracket : {hang deeper : ℕ} {p r : Draft} → drop (q .at) t ≡ 91 ∷ drop (q .at + 1) t → PathRead t hang deeper (moved q (q .at + 1) (q .last)) p → LeftBracket t (q .last) p r → hang ≡ q .last → deeper ≡ d + 1 → PathState t d q₀ r
   again-bracket {hang} {deeper} {p} e y z hung deep =
       let inner : Draft = moved q (q .at + 1) (q .last) in
       bracket-turn e (subst (λ (i : ℕ). PathRead t i (d + 1) inner p) hung (subst (λ (i : ℕ). PathRead t hang i inner p) deep y)) z
 
   -- Such a turn moves on, or finds the text broken.
-  pub bracket-moves : {hang e : ℕ} {p r : Draft} → PathRead t hang e (moved q (q .at + 1) (q .last)) p → Closed t (q .last) p r → r .broken ≡ false → q .at < r .at
+  pub bracket-moves : {hang e : ℕ} {p r : Draft} → PathRead t hang e (moved q (q .at + 1) (q .last)) p → LeftBracket t (q .last) p r → r .broken ≡ false → q .at < r .at
   unfolding moved
   bracket-moves (whole y) (shut s z w) e = omega (arith, behind-path y .moves, ap (λ (x : Draft). x .at) w)
   bracket-moves (torn b n) (shut s z w) e = absurd (not-both b s)
   bracket-moves y (unshut b n) e = absurd (not-both b e)
 
   -- A turn with a further step.
-  pub again-next : {r : Draft} → (Stops (drop (q .at) t) → ⊥) → ((s : List ℕ) → drop (q .at) t ≡ 91 ∷ s → ⊥) → StepRead t (q .last) d q r → State t d q₀ r
+  pub again-next : {r : Draft} → (Stops (drop (q .at) t) → ⊥) → ((s : List ℕ) → drop (q .at) t ≡ 91 ∷ s → ⊥) → StepRead t (q .last) d q r → PathState t d q₀ r
   unfolding grown
   again-next {r} no-stop no-bracket (taken f w) =
       let b = behind-step (q .last) d q r f w in
@@ -219,7 +219,7 @@ module _ {t : List ℕ} {d : ℕ} {q₀ q : Draft} (g : Going t d q₀ q) where
   again-next no-stop no-bracket (missing b n) = lost b (λ _ x l. no-path t n (to-next t no-stop no-bracket (g .to x l)))
 
 -- The loop ends: what was read is a path, or there is none.
-pub ended : {t : List ℕ} {hang d : ℕ} {q q₀ r : Draft} → q .broken ≡ false → StepRead t hang d q q₀ → State t d q₀ r → (r .broken ≡ false → Stops (drop (r .at) t)) → PathRead t hang d q r
+pub ended : {t : List ℕ} {hang d : ℕ} {q q₀ r : Draft} → q .broken ≡ false → StepRead t hang d q q₀ → PathState t d q₀ r → (r .broken ≡ false → Stops (drop (r .at) t)) → PathRead t hang d q r
 ended {t} {hang} {d} {q} {q₀} {r} e (taken f w) (on g) s = whole (shut-path t f w (g .back r (at-end t (g .deep) (s (g .sound)))))
 ended {t} {hang} {d} {q} {q₀} {r} e (taken f w) (lost b n) s = torn b (λ x y. n (behind-step hang d q q₀ f w .sound ∙ e) x (open-path t f w y))
 ended e (missing b n) (on g) s = absurd (not-both b (g .began))

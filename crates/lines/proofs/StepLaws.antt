@@ -31,9 +31,9 @@ pub data Begun (label : ℕ → Label) (entry line : List ℕ) (to s : ℕ) : Ty
   some : StepsText label s (take to line) → to < mostStep * s → Kept entry line to → Begun label entry line to s
 
 -- What a record can be written behind: nothing, or the records of the first s steps and a blank.
-pub data Ready (label : ℕ → Label) (entry line : List ℕ) (to s : ℕ) : Type 0 where
-  first : s ≡ 0 → to ≡ 0 → Kept entry line to → Ready label entry line to s
-  next : {v : List ℕ} → StepsText label s v → take to line ≡ v ++ 32 ∷ [] → to ≤ mostStep * s → Kept entry line to → Ready label entry line to s
+pub data MayWrite (label : ℕ → Label) (entry line : List ℕ) (to s : ℕ) : Type 0 where
+  first : s ≡ 0 → to ≡ 0 → Kept entry line to → MayWrite label entry line to s
+  next : {v : List ℕ} → StepsText label s v → take to line ≡ v ++ 32 ∷ [] → to ≤ mostStep * s → Kept entry line to → MayWrite label entry line to s
 
 module _ {label : ℕ → Label} {entry line : List ℕ} {to s : ℕ} where
   -- With a step behind it, there is room for a blank or the line feed.
@@ -42,26 +42,26 @@ module _ {label : ℕ → Label} {entry line : List ℕ} {to s : ℕ} where
   begun-room (some t r k) l = r
 
   -- So much of a line is taken before a record is written.
-  pub ready-room : Ready label entry line to s → to ≤ mostStep * s
-  ready-room (first e f k) = omega arith
-  ready-room (next t e r k) = r
+  pub write-room : MayWrite label entry line to s → to ≤ mostStep * s
+  write-room (first e f k) = omega arith
+  write-room (next t e r k) = r
 
   -- The same line up to the same place is as ready.
-  pub ready-same : {other : List ℕ} {place : ℕ} → other ≡ line → place ≡ to → Ready label entry line to s → Ready label entry other place s
-  ready-same e f r = rw (e, f) r
+  pub write-same : {other : List ℕ} {place : ℕ} → other ≡ line → place ≡ to → MayWrite label entry line to s → MayWrite label entry other place s
+  write-same e f r = rw (e, f) r
 
   -- Before the first record nothing has to be written.
-  pub ready-first : Begun label entry line to s → s ≤ 0 → Ready label entry line to s
-  ready-first (nothing e f k) l = first e f k
-  ready-first (some t r k) l = absurd (omega (arith, steps-some t))
+  pub write-first : Begun label entry line to s → s ≤ 0 → MayWrite label entry line to s
+  write-first (nothing e f k) l = first e f k
+  write-first (some t r k) l = absurd (omega (arith, steps-some t))
 
   -- Before each other record there is a blank.
-  pub ready-next : {exit : List ℕ} {after : ℕ} → Begun label entry line to s → 0 < s → Adds (32 ∷ []) line to exit after → Ready label entry exit after s
-  ready-next (nothing e f k) l a = absurd (omega arith)
-  ready-next (some t r k) l a = next t (a .text) (omega (arith, a .ends)) (kept-more k a)
+  pub write-next : {exit : List ℕ} {after : ℕ} → Begun label entry line to s → 0 < s → Adds (32 ∷ []) line to exit after → MayWrite label entry exit after s
+  write-next (nothing e f k) l a = absurd (omega arith)
+  write-next (some t r k) l a = next t (a .text) (omega (arith, a .ends)) (kept-more k a)
 
   -- With the record of step s one step more is written.
-  pub begun-more : {exit : List ℕ} {after : ℕ} → Ready label entry line to s → AddsRecord (label s) line to exit after → Begun label entry exit after (s + 1)
+  pub begun-more : {exit : List ℕ} {after : ℕ} → MayWrite label entry line to s → AddsRecord (label s) line to exit after → Begun label entry exit after (s + 1)
   begun-more {exit} {after} (first e f k) a = some text (omega (arith, a .adds .ends, a .most)) (kept-more k (a .adds))
     where
       alone : a .part ≡ take after exit

@@ -37,7 +37,7 @@ loop-again : tie.Need-loop-again Inv-loop μ-loop
 loop-again c = count-turn _ _ _ (small (c .before)) (omega arith) (c .before .loop .inv)
 
 returns : tie.Need-returns Inv-loop μ-loop
-returns c = count-end _ _ _ (c .loop-test .left) (c .before .loop .inv)
+returns c = count-end _ _ _ (omega arith) (c .before .loop .inv)
 
 pub places-spec : {M : Type 1} → statement M
 places-spec =

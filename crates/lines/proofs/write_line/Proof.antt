@@ -2,7 +2,7 @@
 use Prim.Native.Nat.{ℕ, _+_, _-_, _≤_, _<_}
 use native.Mathlib.Nat.{le-antisymm}
 use native.Mathlib.Omega.{arith}
-use mathlib.Core.Path.{refl, subst}
+use mathlib.Core.Path.{_≡_, refl, subst}
 use mathlib.Core.Logic.{⊎-elim}
 use mathlib.Core.List.{List, [], _∷_}
 use lib.ListN.{take}
@@ -13,7 +13,7 @@ use Rattle.meaning.specs.Day.{labelAt}
 use Rattle.meaning.specs.Picks.{at}
 use Rattle.meaning.specs.Printing.{LineText}
 use Rattle.lines.specs.Adding.{Adds, AddsRecord}
-use Rattle.lines.proofs.StepLaws.{Begun, nothing, Ready, begun-room, ready-room, ready-same, ready-first, ready-next, begun-more, line-of, line-kept}
+use Rattle.lines.proofs.StepLaws.{Begun, nothing, MayWrite, begun-room, write-room, write-same, write-first, write-next, begun-more, line-of, line-kept}
 use Rattle.lines.proofs.write_line.Statement.{statement}
 use Rattle.lines.proofs.write_line.Tie as tie
 
@@ -40,13 +40,13 @@ abbrev labels : tie.At-loop Inv-loop μ-loop → ℕ → Label
 labels l = labelsOf (start l .args .index .now) (start l .args .offsets .now) (start l .args .rows .now) (start l .args .from)
 
 -- Behind the blank, or at the very beginning, a record can be written.
-ready : (j : tie.Joined1 Inv-loop μ-loop) → Ready (labels (at-loop j)) (start (at-loop j) .args .line .now) (j .if1 .line) (j .if1 .to) (at-loop j .loop .s)
+ready : (j : tie.Joined1 Inv-loop μ-loop) → MayWrite (labels (at-loop j)) (start (at-loop j) .args .line .now) (j .if1 .line) (j .if1 .to) (at-loop j .loop .s)
 ready j =
     ⊎-elim
     (λ w.
     let blank : Adds (32 ∷ []) (at-loop j .loop .line) (at-loop j .loop .to) (w .2 .last .0) (w .2 .result) = w .2 .ensures in
-    ready-same (w .3) (w .4) (ready-next begun (omega (arith, w .0 .taken)) blank))
-    (λ w. ready-same (w .1) (w .2) (ready-first begun (w .0 .left)))
+    write-same (w .3) (w .4) (write-next begun (omega (arith, w .0 .taken)) blank))
+    (λ w. write-same (w .1) (w .2) (write-first begun (omega (arith, w .0 .left))))
     (j .if1 .came)
   where
     begun : Begun (labels (at-loop j)) (start (at-loop j) .args .line .now) (at-loop j .loop .line) (at-loop j .loop .to) (at-loop j .loop .s)
@@ -55,6 +55,10 @@ ready j =
 -- Behind the loop all steps are written, of which there is at least one.
 done : (e : tie.After-loop Inv-loop μ-loop) → 0 < e .before .loop .s
 done e = omega (arith, start (e .before) .pre .0)
+
+-- The label that is read for a step is the one that the row names for it.
+of-the-row : (c : tie.After-label-at Inv-loop μ-loop) → let l = at-loop (c .before .before .before .before) in c .label-at .result ≡ labels l (l .loop .s)
+of-the-row c = c .label-at .ensures
 
 loop-holds : tie.Need-loop-holds Inv-loop μ-loop
 loop-holds c = (omega arith, nothing refl refl (record { same = refl }))
@@ -84,7 +88,7 @@ label-at-requires : tie.Need-label-at-requires Inv-loop μ-loop
 label-at-requires c κs = let j = c .before .before .before in start (at-loop j) .pre .4 (at-loop j .loop .s) (j .before .loop-test .taken)
 
 put-record-requires : tie.Need-put-record-requires Inv-loop μ-loop
-put-record-requires c κs = omega (arith, c .before .put-record-arg .given, ready-room (ready (c .before .before .before .before)))
+put-record-requires c κs = omega (arith, c .before .put-record-arg .given, write-room (ready (c .before .before .before .before)))
 
 add-s : tie.Need-add-s Inv-loop μ-loop
 add-s c = search needs
@@ -95,7 +99,7 @@ loop-less c = search needs
 loop-again : tie.Need-loop-again Inv-loop μ-loop
 loop-again c =
     let j = c .before .before .before .before .before in
-    (omega arith, begun-more (ready j) (subst (λ (x : Label). AddsRecord x (j .if1 .line) (j .if1 .to) (c .put-record .last .0) (c .put-record .result)) (c .before .label-at .ensures) (c .put-record .ensures)))
+    (omega arith, begun-more (ready j) (subst (λ (x : Label). AddsRecord x (j .if1 .line) (j .if1 .to) (c .put-record .last .0) (c .put-record .result)) (of-the-row (c .before)) (c .put-record .ensures)))
 
 put-requires-2 : tie.Need-put-requires-2 Inv-loop μ-loop
 put-requires-2 c κs = omega (arith, c .put-arg2 .given, begun-room (c .before .before .loop .inv .1) (done (c .before)))

@@ -10,7 +10,7 @@ abbrev pub numbers : Page → List ℕ
 numbers r = r .refusal ∷ r .rows ∷ cond (r .more) 1 0 ∷ r .next ∷ []
 
 -- The four numbers are those of a page that a promise allows.
-pub record Passed (Promise : Page → Type 0) (result : List ℕ) : Type 0 where
+pub record PassedOn (Promise : Page → Type 0) (result : List ℕ) : Type 0 where
   pub page : Page
   pub promised : Promise page
   pub numbered : result ≡ numbers page

@@ -3,7 +3,7 @@ ghost use Prim.Native.Nat.{_≤_};
 ghost use mathlib.Core.Path.{_≡_};
 ghost use Rattle.meaning.specs.Limits.{mostLabels};
 ghost use Rattle.meaning.specs.Promises.{Checked, Answered, Shown};
-ghost use Rattle.roadthrum_c.specs.Boundary.{numbers as Boundary·numbers, Passed};
+ghost use Rattle.roadthrum_c.specs.Boundary.{numbers as Boundary·numbers, PassedOn};
 use meaning::Page;
 
 // The page as four numbers.
@@ -31,7 +31,7 @@ pub extern "C" fn roadthrum_answer(
     rows: &mut [u32],
     result: &mut [u32; 4],
 )
-    ensures { λ _. ⌜ Passed (Answered (now (index .entry)) (now (question .entry)) place (now (rows .entry)) (now (rows .exit))) (now (result .exit)) ⌝ }
+    ensures { λ _. ⌜ PassedOn (Answered (now (index .entry)) (now (question .entry)) place (now (rows .entry)) (now (rows .exit))) (now (result .exit)) ⌝ }
 {
     *result = numbers(answer::answer(index, question, place, rows));
 }
@@ -45,7 +45,7 @@ pub extern "C" fn roadthrum_evidence(
     rows: &mut [u32],
     result: &mut [u32; 4],
 )
-    ensures { λ _. ⌜ Passed (Shown (now (index .entry)) (now (question .entry)) place (now (rows .entry)) (now (rows .exit))) (now (result .exit)) ⌝ }
+    ensures { λ _. ⌜ PassedOn (Shown (now (index .entry)) (now (question .entry)) place (now (rows .entry)) (now (rows .exit))) (now (result .exit)) ⌝ }
 {
     *result = numbers(answer::evidence(index, question, place, rows));
 }

@@ -27,7 +27,6 @@ use Rattle.question.specs.Promise.{ReadAs, readTable}
 use Rattle.question.specs.Promise as reading
 use Rattle.answer.specs.Plan.{Asks, Drawn}
 use Rattle.answer.proofs.Responding.{few-steps}
-use Rattle.roadthrum.specs.Rows.{Given}
 
 -- What an accepted call has found.
 pub record Accepted (b text : List ℕ) (place : ℕ) (entry rows : List ℕ) (r : Page) : Type 0 where

@@ -9,7 +9,7 @@ use Rattle.meaning.specs.declared.Page.{Page}
 use Rattle.meaning.specs.Promises.{Shown}
 
 -- The evidence call, from some place on and with some buffer lent, gave this page and left the buffer so.
-pub record Given (b text rows : List ℕ) (r : Page) : Type 0 where
+pub record PageGiven (b text rows : List ℕ) (r : Page) : Type 0 where
   pub place : ℕ
   pub entry : List ℕ
   pub shown : Shown b text place entry rows r
@@ -17,7 +17,7 @@ pub record Given (b text rows : List ℕ) (r : Page) : Type 0 where
 
 -- A row of k list positions stands in `rows` from `from` on, and each is a label within the index, where `offsets` says where each step's
 -- body begins.
-pub record Row (b : List ℕ) (k : ℕ) (offsets rows : List ℕ) (from : ℕ) : Type 0 where
+pub record RowAt (b : List ℕ) (k : ℕ) (offsets rows : List ℕ) (from : ℕ) : Type 0 where
   pub some : 1 ≤ k
   pub few : k ≤ mostSteps
   pub ended : from + k ≤ length rows

@@ -2,7 +2,7 @@
 ghost use Prim.Native.Nat.{_≤_};
 ghost use lib.ListN.{length};
 ghost use Rattle.meaning.specs.Limits.{mostSteps};
-ghost use Rattle.roadthrum.specs.Rows.{Row, Given};
+ghost use Rattle.roadthrum.specs.PageRows.{RowAt, PageGiven};
 use answer::draw;
 use lines::Line;
 use lines::write_line;
@@ -28,7 +28,7 @@ pub fn print_refusal(number: u32) {
 
 // Prints the line of the row that begins at `from`.
 fn print_row(index: &[u8], k: usize, offsets: &[usize; Step::MOST], rows: &[u32], from: usize)
-    requires { ⌜ Row (now index) k (now offsets) (now rows) from ⌝ }
+    requires { ⌜ RowAt (now index) k (now offsets) (now rows) from ⌝ }
 {
     let mut line = [0u8; Line::MOST_BYTES];
     let length = write_line(index, k, offsets, rows, from, &mut line);
@@ -37,7 +37,7 @@ fn print_row(index: &[u8], k: usize, offsets: &[usize; Step::MOST], rows: &[u32]
 
 // Prints a line for each row of a page that the evidence call gave.
 fn print_rows(index: &[u8], text: &[u8], rows: &[u32], page: Page)
-    requires { ⌜ Given (now index) (now text) (now rows) page ⌝ }
+    requires { ⌜ PageGiven (now index) (now text) (now rows) page ⌝ }
 {
     let question = question::read(text).question;
     let plan = draw(index, text, question);

@@ -1,4 +1,4 @@
--- `roadthrum::main` may make its calls: what was read of each file stands at the beginning of its buffer.
+-- `roadthrum::main` may make its calls: no more bytes are counted of a file than its buffer holds.
 use mathlib.Core.Path.{sym, subst}
 use lib.Seq.{length-take-le}
 use Rattle.roadthrum.specs.declared.files.File.{File}
@@ -62,7 +62,7 @@ slice-aggregate-show : tie.Need-slice-aggregate-show
 slice-aggregate-show c = sym (length-take-le _ _ (search needs))
 
 array-share-prefix-text : tie.Need-array-share-prefix-text
-array-share-prefix-text c = subst (λ (f : File). Fits f (c .before .before .before .before .before .before .read-file2 .last .1 .0)) (c .before .before .before .text-length .given .1) (c .before .before .before .before .before .before .read-file2 .ensures) .0
+array-share-prefix-text c = subst (λ (f : File). Fits f (c .before .before .before .before .before .before .read-file2 .last .1 .0)) (c .before .before .before .text-length .given .1) (c .before .before .before .before .before .before .read-file2 .ensures)
 
 slice-aggregate-show-2 : tie.Need-slice-aggregate-show-2
 slice-aggregate-show-2 c = sym (length-take-le _ _ (array-share-prefix-text (c .before)))

@@ -1,18 +1,11 @@
 -- `roadthrum::files::fill` meets its contract and ends: each read that does not end it brings at least one byte.
-use Prim.Native.Nat.{ℕ, _-_, _≤_}
+use Prim.Native.Nat.{_-_, _≤_}
 use native.Mathlib.Omega.{arith}
-use mathlib.Core.Path.{_≡_, sym}
-use mathlib.Core.List.{List}
+use mathlib.Core.Path.{_≡_}
 use lib.ListN.{length}
-use lib.Seq.{length-take-le}
-use Rattle.roadthrum.specs.declared.files.File.the-variants.{Holds}
-use Rattle.roadthrum.specs.Files.{Fits}
 use borrow.Author.Needs.{needs}
 use Rattle.roadthrum.proofs.files.fill.Statement.{statement}
 use Rattle.roadthrum.proofs.files.fill.Tie as tie
-
-counted : (n : ℕ) (buffer : List ℕ) → n ≤ length buffer → Fits (Holds n) buffer
-counted n buffer l = (l, sym (length-take-le n buffer l))
 
 abbrev Inv-loop : tie.InvT-loop
 Inv-loop fd buffer₀ done₀ buffer done = (done ≤ length buffer) × (length buffer ≡ length buffer₀)
@@ -48,7 +41,7 @@ same-length-2 : tie.Need-same-length-2 Inv-loop μ-loop
 same-length-2 c = search needs
 
 returns-2 : tie.Need-returns-2 Inv-loop μ-loop
-returns-2 c = counted _ _ (search needs)
+returns-2 c = search needs
 
 add-done : tie.Need-add-done Inv-loop μ-loop
 add-done c = search needs
@@ -63,7 +56,7 @@ same-length-3 : tie.Need-same-length-3 Inv-loop μ-loop
 same-length-3 c = search needs
 
 returns-3 : tie.Need-returns-3 Inv-loop μ-loop
-returns-3 c = counted _ _ (search needs)
+returns-3 c = search needs
 
 pub fill-spec : {M : Type 1} → statement M
 fill-spec =

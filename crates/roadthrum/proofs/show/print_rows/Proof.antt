@@ -5,13 +5,13 @@ use native.Mathlib.Omega.{arith}
 use mathlib.Core.Path.{_≡_}
 use Rattle.meaning.proofs.Laws.Step.{steps-some}
 use borrow.Author.Needs.{needs}
-use Rattle.roadthrum.specs.Rows.{Row}
+use Rattle.roadthrum.specs.PageRows.{RowAt}
 use Rattle.roadthrum.proofs.Accepted.{Accepted, accepted, asks, labelled}
 use Rattle.roadthrum.proofs.show.print_rows.Statement.{statement}
 use Rattle.roadthrum.proofs.show.print_rows.Tie as tie
 
 abbrev Inv-loop : tie.InvT-loop
-Inv-loop index text rows offsets k many from₀ row₀ from row = (from ≡ row * k) × ((j f : ℕ) → f ≡ j * k → j < many → Row index k offsets rows f)
+Inv-loop index text rows offsets k many from₀ row₀ from row = (from ≡ row * k) × ((j f : ℕ) → f ≡ j * k → j < many → RowAt index k offsets rows f)
 
 abbrev μ-loop : tie.MeasureT-loop
 μ-loop index text rows offsets k many from₀ row₀ from row = many - row
@@ -36,11 +36,15 @@ loop-holds c =
           record { some = omega (arith, d .drawn .k-is, steps-some (d .writes .tree)); few = omega (arith, d .drawn .k-is, d .few); ended = y .0; each = search needs; labels = y .1 },
     )
 
+-- In a turn a row of the page is left.
+left : (turn : tie.In-loop Inv-loop μ-loop) → let l = turn .before in l .loop .row < l .before .before .before .before .before .before .before .before .args .page .rows
+left turn = omega arith
+
 print-row-requires : tie.Need-print-row-requires Inv-loop μ-loop
-print-row-requires c κs = let turn = c .before in turn .before .loop .inv .1 _ _ (turn .before .loop .inv .0) (turn .loop-test .taken)
+print-row-requires c κs = let turn = c .before in turn .before .loop .inv .1 _ _ (turn .before .loop .inv .0) (left turn)
 
 add-from : tie.Need-add-from Inv-loop μ-loop
-add-from c = let turn = c .before .before in record { fits = omega (arith, turn .before .loop .inv .1 _ _ (turn .before .loop .inv .0) (turn .loop-test .taken) .ended, c .before .before .before .before .before .before .before .before .before .before .before .good) }
+add-from c = let turn = c .before .before in let row = turn .before .loop .inv .1 _ _ (turn .before .loop .inv .0) (left turn) in record { fits = omega (arith, row .some, row .ended, c .before .before .before .before .before .before .before .before .before .before .before .good) }
 
 add-row : tie.Need-add-row Inv-loop μ-loop
 add-row c = search needs

@@ -24,10 +24,11 @@ use Rattle.meaning.proofs.Laws.Step.{hook-upward}
 use Rattle.meaning.proofs.Laws.Promise.{lawful-small}
 use Rattle.question.specs.Stored.{hookNumber, questionOf, blankStep}
 use Rattle.question.proofs.StoredSteps.{StoredAs, stored-step}
-use Rattle.answer.specs.Plan.{hookOf, planOf, Planned, Column, Drawn, Asks, Draws}
-use Rattle.answer.proofs.Turns.{hook-from, hook-nothing}
-use Rattle.answer.proofs.Moves.{set-cases}
-use Rattle.answer.proofs.Paging.{zeros}
+use Rattle.cursors.specs.Plan.{hookOf, planOf, Planned}
+use Rattle.answer.specs.Drawn.{Column, Drawn, Asks, Draws}
+use Rattle.cursors.proofs.SettleTurns.{hook-from, hook-nothing}
+use Rattle.cursors.proofs.Moves.{set-cases}
+use Rattle.cursors.proofs.Paging.{zeros}
 use Rattle.answer.proofs.Agreeing.{Agree, agree-back}
 
 -- A hook is found again from its number, if a step's number is below 255.

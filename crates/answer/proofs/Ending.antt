@@ -13,8 +13,9 @@ use Rattle.meaning.specs.Pages.{Paged, Position, answerRoom, evidenceRoom}
 use Rattle.meaning.specs.Refusals.{Lawful}
 use Rattle.meaning.specs.Fit.{Fit}
 use Rattle.meaning.proofs.Laws.Day.{lawful-fit}
-use Rattle.answer.specs.Plan.{planOf, Drawn}
-use Rattle.answer.specs.Rows.{PartOf}
+use Rattle.cursors.specs.Plan.{planOf}
+use Rattle.answer.specs.Drawn.{Drawn}
+use Rattle.cursors.specs.RowParts.{PartOf}
 use Rattle.answer.proofs.Agreeing.{Agree, agree-back, evidence-agree, paged-agree}
 use Rattle.answer.proofs.Drawing.{drawn-agrees, drawn-fit}
 

@@ -1,7 +1,4 @@
--- Why the cursors are the evidence.
-pub mod Moves
-pub mod Turns
-pub mod Paging
+-- From the text to the plan, and from the engine's page to what the calls promise.
 pub mod Agreeing
 pub mod Drawing
 pub mod Ending

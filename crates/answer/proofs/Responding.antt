@@ -19,8 +19,9 @@ use Rattle.meaning.proofs.Laws.Promise.{never-too-many}
 use Rattle.question.specs.declared.Reading.{Reading}
 use Rattle.question.specs.Promise.{ReadAs, readTable}
 use Rattle.question.specs.Promise as reading
-use Rattle.answer.specs.Plan.{planOf, Asks, Draws}
-use Rattle.answer.specs.Rows.{PartOf}
+use Rattle.cursors.specs.Plan.{planOf}
+use Rattle.answer.specs.Drawn.{Asks, Draws}
+use Rattle.cursors.specs.RowParts.{PartOf}
 use Rattle.answer.specs.Response.{Responds}
 use Rattle.answer.proofs.Ending.{answer-page, evidence-page}
 

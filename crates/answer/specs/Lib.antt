@@ -1,6 +1,3 @@
--- What the parts of the engine promise to each other.
-pub mod Plan
-pub mod Cursors
-pub mod Looking
-pub mod Rows
+-- What the parts of the two calls promise to each other.
+pub mod Drawn
 pub mod Response

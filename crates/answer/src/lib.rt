@@ -1,14 +1,12 @@
 // The answer call and the evidence call.
-mod cursors;
-mod pages;
 mod plan;
 
 ghost use mathlib.Core.Path.{_≡_};
 ghost use mathlib.Core.Bool.{false};
 ghost use Rattle.meaning.specs.Promises.{Answered, Shown};
 ghost use Rattle.answer.specs.Response.{Responds};
+use cursors::write_page;
 use meaning::Page;
-use pages::write_page;
 pub use plan::Plan;
 pub use plan::draw;
 

@@ -6,8 +6,8 @@ use Rattle.meaning.specs.Refusals.{Lawful}
 use Rattle.meaning.proofs.Laws.Table.{checked-lawful}
 use Rattle.meaning.proofs.Laws.Step.{steps-some}
 use Rattle.contents.proofs.FindLaws.{list-within}
-use Rattle.answer.specs.Plan.{Planned}
-use Rattle.answer.proofs.Turns.{ret-of}
+use Rattle.cursors.specs.Plan.{Planned}
+use Rattle.cursors.proofs.SettleTurns.{ret-of}
 use Rattle.answer.proofs.Drawing.{drawn-planned}
 use Rattle.answer.proofs.Responding.{Heard, heard, refuse-index, refuse-text, give-answer, give-evidence}
 use borrow.Author.Needs.{needs}

@@ -11,7 +11,7 @@ use Rattle.meaning.specs.Notation.{steps}
 use Rattle.meaning.specs.Picks.{stepAt}
 use Rattle.question.specs.Stored.{blankStep}
 use Rattle.question.proofs.StoredSteps.{StoredAs}
-use Rattle.answer.specs.Plan.{Asks, Draws}
+use Rattle.answer.specs.Drawn.{Asks, Draws}
 use Rattle.answer.proofs.Drawing.{Drawing, draw-begin, draw-on, draw-end, asked-step}
 use Rattle.answer.proofs.plan.draw.Statement.{statement}
 use Rattle.answer.proofs.plan.draw.Tie as tie

@@ -16,7 +16,7 @@ use Rattle.meaning.specs.Picks.{Asked, Edge, Hung, Pick, at}
 use Rattle.meaning.proofs.Decide.{at-least}
 use Rattle.meaning.specs.Fit.{Fit}
 use Rattle.meaning.proofs.Laws.Pick.{earlier-starts}
-use Rattle.answer.specs.Cursors.{AtMost, LeastPick, NoPick, Touches, Held}
+use Rattle.cursors.specs.Cursors.{AtMost, LeastPick, NoPick, Touches, Unbroken}
 
 -- The edge of a pick at a step that hangs from u.
 pub edge-of : (a : Asked) (q : ℕ → ℕ) (s u : ℕ) (h : Hook) → h ≡ from u → Hung a q s h → Edge (a .label s (q s)) (a .label u (q u))
@@ -35,7 +35,7 @@ Bound a low p = (q : ℕ → ℕ) → Pick a q → AtMost a low q → AtMost a p
 pub record Settling (a : Asked) (low : ℕ → ℕ) (xs : List ℕ) (s : ℕ) : Type 0 where
   pub bound : Bound a low (at xs)
   pub later : AtMost a low (at xs)
-  pub held : Held a (at xs) s
+  pub held : Unbroken a (at xs) s
 
 -- A fact of each element after a store: at the stored place, and at each other.
 pub set-cases : (P : ℕ → ℕ → Type 0) (xs : List ℕ) (s r : ℕ) → s < length xs → P s r → ((j : ℕ) → j ≢ s → P j (at xs j)) → (j : ℕ) → P j (at (set xs s r) j)
@@ -148,27 +148,27 @@ module _ (a : Asked) (fit : Fit a) (low : ℕ → ℕ) where
   }
 
   -- The walk begins where the cursors are, at a step below which no edge is broken.
-  pub begin : (xs : List ℕ) (s : ℕ) → ((j : ℕ) → low j ≡ at xs j) → Held a (at xs) s → Settling a low xs s
+  pub begin : (xs : List ℕ) (s : ℕ) → ((j : ℕ) → low j ≡ at xs j) → Unbroken a (at xs) s → Settling a low xs s
   begin xs s e h = record { bound = λ q pick f j k. rw (← e j) (f j k); later = λ j k. omega (arith, e j); held = h }
 
 -- What is left of the lists of the first k steps, past their cursors.
-pub left : (ℕ → ℕ) → List ℕ → ℕ → ℕ
-left count xs zero = 0
-left count xs (suc k) = left count xs k + (count k - at xs k)
+pub remaining : (ℕ → ℕ) → List ℕ → ℕ → ℕ
+remaining count xs zero = 0
+remaining count xs (suc k) = remaining count xs k + (count k - at xs k)
 
-left-out : (count : ℕ → ℕ) (xs : List ℕ) (k c v : ℕ) → k ≤ c → left count (set xs c v) k ≡ left count xs k
-unfolding left
-left-out count xs zero c v l = refl
-left-out count xs (suc k) c v l = simp (left-out count xs k c v (omega arith), getD-set-other xs c k v 0 (ne-of-lt l))
+remaining-out : (count : ℕ → ℕ) (xs : List ℕ) (k c v : ℕ) → k ≤ c → remaining count (set xs c v) k ≡ remaining count xs k
+unfolding remaining
+remaining-out count xs zero c v l = refl
+remaining-out count xs (suc k) c v l = simp (remaining-out count xs k c v (omega arith), getD-set-other xs c k v 0 (ne-of-lt l))
 
 -- A cursor in range that is raised leaves less.
-pub left-falls : (count : ℕ → ℕ) (xs : List ℕ) (k c v : ℕ) → c < k → c < length xs → at xs c < v → at xs c < count c
-    → left count (set xs c v) k < left count xs k
-unfolding left
-left-falls count xs zero c v ck cl up room = absurd (omega arith)
-left-falls count xs (suc k) c v ck cl up room = go (eq-or-lt-of-le (le-of-suc-le-suc ck)) (left-falls count xs k c v)
+pub remaining-falls : (count : ℕ → ℕ) (xs : List ℕ) (k c v : ℕ) → c < k → c < length xs → at xs c < v → at xs c < count c
+    → remaining count (set xs c v) k < remaining count xs k
+unfolding remaining
+remaining-falls count xs zero c v ck cl up room = absurd (omega arith)
+remaining-falls count xs (suc k) c v ck cl up room = go (eq-or-lt-of-le (le-of-suc-le-suc ck)) (remaining-falls count xs k c v)
   where
-    go : (c ≡ k) ⊎ (c < k) → (c < k → c < length xs → at xs c < v → at xs c < count c → left count (set xs c v) k < left count xs k)
-        → left count (set xs c v) k + (count k - at (set xs c v) k) < left count xs k + (count k - at xs k)
+    go : (c ≡ k) ⊎ (c < k) → (c < k → c < length xs → at xs c < v → at xs c < count c → remaining count (set xs c v) k < remaining count xs k)
+        → remaining count (set xs c v) k + (count k - at (set xs c v) k) < remaining count xs k + (count k - at xs k)
     go (inr l) ih = simp (getD-set-other xs c k v 0 (λ e. ne-of-lt l (sym e))) (omega (arith, ih l cl up room))
-    go (inl e) ih = rw (← e, left-out count xs c c v (omega arith), getD-set-same xs c v 0 cl) (omega arith)
+    go (inl e) ih = rw (← e, remaining-out count xs c c v (omega arith), getD-set-same xs c v 0 cl) (omega arith)

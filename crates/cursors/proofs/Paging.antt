@@ -17,17 +17,17 @@ use Rattle.meaning.specs.Pages.{Records, Rows, none, row, Paged}
 use Rattle.meaning.specs.Fit.{Fit}
 use Rattle.meaning.proofs.Laws.Pick.{same-pick}
 use Rattle.meaning.proofs.Laws.Record.{recordsOf, records-of}
-use Rattle.answer.specs.Cursors.{AtMost, LeastPick, NoPick, Settled, found, ended, Held}
-use Rattle.answer.proofs.Moves.{set-cases, edge-of}
+use Rattle.cursors.specs.Cursors.{AtMost, LeastPick, NoPick, Settled, found, ended, Unbroken}
+use Rattle.cursors.proofs.Moves.{set-cases, edge-of}
 
 -- i is the first returned record at `place` or later.
-pub record Next (a : Asked) (place i : ℕ) : Type 0 where
+pub record NextRecord (a : Asked) (place i : ℕ) : Type 0 where
   pub found : Returned a i
   pub later : place ≤ i
   pub least : (j : ℕ) → Returned a j → place ≤ j → i ≤ j
 
 -- The first record before the records behind it makes the records of a place.
-pub records-next : (a : Asked) (place i : ℕ) (is : List ℕ) → Next a place i → Records a (i + 1) is → Records a place (i ∷ is)
+pub records-next : (a : Asked) (place i : ℕ) (is : List ℕ) → NextRecord a place i → Records a (i + 1) is → Records a place (i ∷ is)
 records-next a place i is n r = record {
   ascending = (λ j h. omega (arith, r .each j h .1), r .ascending);
   each = λ j h. ⊎-elim (λ e. (subst (Returned a) (sym e) (n .found), omega (arith, e, n .later))) (λ m. (r .each j m .0, omega (arith, r .each j m .1, n .later))) h;
@@ -52,7 +52,7 @@ module _ (a : Asked) (fit : Fit a) (xs : List ℕ) (f : Floor a xs) where
   done-of no-pick = records-none a (at xs (a .returned)) (λ j x l. no-pick (x .0) (x .1) (f (x .0) (x .1) (omega (arith, x .2))))
 
   module _ (ys : List ℕ) (least : LeastPick a (at xs) (at ys)) where
-    pub next-of : Next a (at xs (a .returned)) (at ys (a .returned))
+    pub next-of : NextRecord a (at xs (a .returned)) (at ys (a .returned))
     next-of = record {
       found = (at ys, least .pick, refl);
       later = least .later (a .returned) (fit .returned-lt);
@@ -78,7 +78,7 @@ module _ (a : Asked) (fit : Fit a) (xs : List ℕ) (f : Floor a xs) where
         set-cases (λ j x. j < a .steps → x ≤ q j) ys (a .returned) (at ys (a .returned) + 1) rl (λ _. up) (λ j _ k. least .least q pick over j k)
 
     -- Below the returned step the least pick's edges stay as they are when the returned cursor is raised.
-    pub held-next : (v : ℕ) → Held a (at (set ys (a .returned) v)) (a .returned)
+    pub held-next : (v : ℕ) → Unbroken a (at (set ys (a .returned) v)) (a .returned)
     held-next v = record {
       ranged = λ j l. rw (same j l) (least .pick .within j (omega (arith, fit .returned-lt)));
       touches = λ j l u e.
@@ -103,7 +103,7 @@ pub record Writing (a : Asked) (Row : ℕ → List ℕ → Type 0) (place room w
   pub to-is : to ≡ n * width
   pub floor : Floor a xs
   pub first-le : first ≤ a .steps
-  pub held : Held a (at xs) first
+  pub held : Unbroken a (at xs) first
   pub is : List ℕ
   pub long : length is ≡ n
   pub rows : Rows Row is (take to out)

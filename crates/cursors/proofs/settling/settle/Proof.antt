@@ -1,4 +1,4 @@
--- `answer::cursors::settle` meets its contract. The loop's invariant is `Turn`, and each way round the loop is a lemma of `Turns`.
+-- `cursors::settling::settle` meets its contract. The loop's invariant is `SettleTurn`, and each way round the loop is a lemma of `SettleTurns`.
 use Prim.Native.Nat.{ℕ, _+_, _*_, _-_, _≤_, _<_}
 use native.Mathlib.Omega.{arith}
 use borrow.Author.Needs.{needs}
@@ -6,17 +6,17 @@ use mathlib.Core.Path.{_≡_, refl, sym, subst}
 use mathlib.Core.List.{List}
 use lib.ListN.{length}
 use Rattle.meaning.specs.Picks.{at}
-use Rattle.answer.specs.Plan.{planOf, Planned}
-use Rattle.answer.specs.Cursors.{Settled, found, ended}
-use Rattle.answer.specs.declared.cursors.Sight.{Sight}
-use Rattle.answer.specs.declared.cursors.Sight.the-variants.{Early, Late, Within}
-use Rattle.answer.specs.Looking.{Looks}
-use Rattle.answer.proofs.Turns.{Turn, μ, turn-begin, turn-end, turn-none, turn-free, turn-jump, turn-back, turn-on, on-less, jump-less, back-less, above-held, above-room, up-lt, ascends}
-use Rattle.answer.proofs.cursors.settle.Statement.{statement}
-use Rattle.answer.proofs.cursors.settle.Tie as tie
+use Rattle.cursors.specs.Plan.{planOf, Planned}
+use Rattle.cursors.specs.Cursors.{Settled, found, ended}
+use Rattle.cursors.specs.declared.settling.Sight.{Sight}
+use Rattle.cursors.specs.declared.settling.Sight.the-variants.{Early, Late, Touching}
+use Rattle.cursors.specs.Looking.{Looks}
+use Rattle.cursors.proofs.SettleTurns.{SettleTurn, μ, turn-begin, turn-end, turn-none, turn-free, turn-jump, turn-back, turn-on, on-less, jump-less, back-less, above-held, above-room, up-lt, ascends}
+use Rattle.cursors.proofs.settling.settle.Statement.{statement}
+use Rattle.cursors.proofs.settling.settle.Tie as tie
 
 abbrev Inv-loop : tie.InvT-loop
-Inv-loop index k ret hangs offsets counts pos₀ first s₀ pos s = Turn (planOf index k ret hangs offsets counts) (at pos₀) pos s
+Inv-loop index k ret hangs offsets counts pos₀ first s₀ pos s = SettleTurn (planOf index k ret hangs offsets counts) (at pos₀) pos s
 
 abbrev μ-loop : tie.MeasureT-loop
 μ-loop index k ret hangs offsets counts pos₀ first s₀ pos s = μ (planOf index k ret hangs offsets counts) pos s
@@ -163,7 +163,7 @@ loop-less-4 : tie.Need-loop-less-4 Inv-loop μ-loop
 loop-less-4 c = search needs
 
 loop-again-4 : tie.Need-loop-again-4 Inv-loop μ-loop
-loop-again-4 c = let e = c .before .before .before .before .before .before in let i = in₂ e in let see : Sees e Within = subst (Sees e) (c .enum-told2 .given .1) (c .before .before .look .ensures) in turn-on _ _ _ _ _ _ (i .before .before .before .pre .0) _ _ _ (i .before .loop .inv) (i .loop-test .taken) (e .before .before .if1 .left) _ refl (e .if2 .left) (see .0) (see .1)
+loop-again-4 c = let e = c .before .before .before .before .before .before in let i = in₂ e in let see : Sees e Touching = subst (Sees e) (c .enum-told2 .given .1) (c .before .before .look .ensures) in turn-on _ _ _ _ _ _ (i .before .before .before .pre .0) _ _ _ (i .before .loop .inv) (i .loop-test .taken) (e .before .before .if1 .left) _ refl (e .if2 .left) (see .0) (see .1)
 
 returns-2 : tie.Need-returns-2 Inv-loop μ-loop
 returns-2 c = (found (turn-end _ _ _ _ _ _ (c .before .before .before .pre .0) _ _ _ (c .before .loop .inv) (c .loop-test .left)), c .before .loop .inv .len)

@@ -13,9 +13,9 @@ use Rattle.meaning.specs.Notation.{Hook, nothing, from}
 use Rattle.meaning.specs.Picks.{Asked, at}
 use Rattle.meaning.proofs.Decide.{at-least}
 use Rattle.label.specs.Started.{Ascends, Started}
-use Rattle.answer.specs.Plan.{hookOf, planOf, Planned}
-use Rattle.answer.specs.Cursors.{LeastPick, NoPick, Touches, Held}
-use Rattle.answer.proofs.Moves.{Settling, settle-on, jump, back, settled, begin, none-past, left, left-falls}
+use Rattle.cursors.specs.Plan.{hookOf, planOf, Planned}
+use Rattle.cursors.specs.Cursors.{LeastPick, NoPick, Touches, Unbroken}
+use Rattle.cursors.proofs.Moves.{Settling, settle-on, jump, back, settled, begin, none-past, remaining, remaining-falls}
 
 -- The number 255 is nothing.
 pub hook-nothing : (n : ℕ) → n ≡ 255 → hookOf n ≡ nothing
@@ -36,28 +36,28 @@ one-hook : (h : Hook) (u v : ℕ) → h ≡ from u → h ≡ from v → u ≡ v
 one-hook h u v e f = cc
 
 -- The loop's invariant: the cursors xs, of which those below step s are settled.
-pub record Turn (a : Asked) (low : ℕ → ℕ) (xs : List ℕ) (s : ℕ) : Type 0 where
+pub record SettleTurn (a : Asked) (low : ℕ → ℕ) (xs : List ℕ) (s : ℕ) : Type 0 where
   pub len : length xs ≡ 32
   pub s-le : s ≤ a .steps
   pub st : Settling a low xs s
 
 -- What falls with each turn: what is left of the lists, and then the steps to come.
 abbrev pub μ : Asked → List ℕ → ℕ → ℕ
-μ a xs s = 33 * left (a .count) xs (a .steps) + (32 - s)
+μ a xs s = 33 * remaining (a .count) xs (a .steps) + (32 - s)
 
 module _ (b : List ℕ) (k ret : ℕ) (hangs offsets counts : List ℕ) (plan : Planned b k ret hangs offsets counts) where
   abbrev a : Asked
   a = planOf b k ret hangs offsets counts
 
-  pub turn-begin : (xs : List ℕ) (s : ℕ) → length xs ≡ 32 → s ≤ k → Held a (at xs) s → Turn a (at xs) xs s
+  pub turn-begin : (xs : List ℕ) (s : ℕ) → length xs ≡ 32 → s ≤ k → Unbroken a (at xs) s → SettleTurn a (at xs) xs s
   unfolding planOf
   turn-begin xs s l sk h = record { len = l; s-le = sk; st = begin a (plan .fit) (at xs) xs s (λ j. refl) h }
 
-  pub turn-end : (low : ℕ → ℕ) (xs : List ℕ) (s : ℕ) → Turn a low xs s → k ≤ s → LeastPick a low (at xs)
+  pub turn-end : (low : ℕ → ℕ) (xs : List ℕ) (s : ℕ) → SettleTurn a low xs s → k ≤ s → LeastPick a low (at xs)
   unfolding planOf
   turn-end low xs s w l = settled a (plan .fit) low xs (subst (λ (n : ℕ). Settling a low xs n) (le-antisymm (w .s-le) l) (w .st))
 
-  module _ (low : ℕ → ℕ) (xs : List ℕ) (s : ℕ) (w : Turn a low xs s) (sk : s < k) where
+  module _ (low : ℕ → ℕ) (xs : List ℕ) (s : ℕ) (w : SettleTurn a low xs s) (sk : s < k) where
     pub turn-none : at counts s ≤ at xs s → NoPick a low
     unfolding planOf
     turn-none l = none-past a (plan .fit) low xs s (w .st) sk l
@@ -69,7 +69,7 @@ module _ (b : List ℕ) (k ret : ℕ) (hangs offsets counts : List ℕ) (plan : 
       on-less = omega (arith, plan .few)
 
       -- The step hangs from nothing.
-      pub turn-free : at hangs s ≡ 255 → Turn a low xs (s + 1)
+      pub turn-free : at hangs s ≡ 255 → SettleTurn a low xs (s + 1)
       unfolding planOf
       turn-free e = record {
         len = w .len;
@@ -103,7 +103,7 @@ module _ (b : List ℕ) (k ret : ℕ) (hangs offsets counts : List ℕ) (plan : 
           raised : at xs s < r
           raised = at-least {P = λ j. j ≡ r} (suc (at xs s)) (λ j l e. omega (arith, found .rest (at xs s) (omega arith) room)) r refl
 
-          pub turn-jump : Turn a low (set xs s r) s
+          pub turn-jump : SettleTurn a low (set xs s r) s
           unfolding planOf
           turn-jump = record {
             len = simp length-set (w .len);
@@ -113,11 +113,11 @@ module _ (b : List ℕ) (k ret : ℕ) (hangs offsets counts : List ℕ) (plan : 
 
           pub jump-less : μ a (set xs s r) s < μ a xs s
           unfolding planOf
-          jump-less = omega (arith, left-falls (at counts) xs k s r sk (omega (arith, w .len, plan .few)) raised room)
+          jump-less = omega (arith, remaining-falls (at counts) xs k s r sk (omega (arith, w .len, plan .few)) raised room)
 
         -- The record starts after the end of the record above it.
         module _ (late : labelAt b (at offsets u) (at xs u) .end < labelAt b (at offsets s) (at xs s) .start) where
-          pub turn-back : Turn a low (set xs u (at xs u + 1)) u
+          pub turn-back : SettleTurn a low (set xs u (at xs u + 1)) u
           unfolding planOf
           turn-back = record {
             len = simp length-set (w .len);
@@ -127,11 +127,11 @@ module _ (b : List ℕ) (k ret : ℕ) (hangs offsets counts : List ℕ) (plan : 
 
           pub back-less : μ a (set xs u (at xs u + 1)) u < μ a xs s
           unfolding planOf
-          back-less = omega (arith, up-lt, plan .few, left-falls (at counts) xs k u (at xs u + 1) (omega (arith, up-lt)) (omega (arith, up-lt, w .len, plan .few)) (omega arith) above-room)
+          back-less = omega (arith, up-lt, plan .few, remaining-falls (at counts) xs k u (at xs u + 1) (omega (arith, up-lt)) (omega (arith, up-lt, w .len, plan .few)) (omega arith) above-room)
 
         -- It starts within that record.
         pub turn-on : labelAt b (at offsets u) (at xs u) .start < labelAt b (at offsets s) (at xs s) .start
-            → labelAt b (at offsets s) (at xs s) .start ≤ labelAt b (at offsets u) (at xs u) .end → Turn a low xs (s + 1)
+            → labelAt b (at offsets s) (at xs s) .start ≤ labelAt b (at offsets u) (at xs u) .end → SettleTurn a low xs (s + 1)
         unfolding planOf
         turn-on after reached = record {
           len = w .len;

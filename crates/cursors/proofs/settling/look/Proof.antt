@@ -1,11 +1,11 @@
--- `answer::cursors::look` meets its contract: each return is one of the three sights.
+-- `cursors::settling::look` meets its contract: each return is one of the three sights.
 use Prim.Native.Nat.{ℕ}
 use native.Mathlib.Omega.{arith}
 use mathlib.Core.Path.{subst}
 use Rattle.label.specs.Started.{Started}
 use borrow.Author.Needs.{needs}
-use Rattle.answer.proofs.cursors.look.Statement.{statement}
-use Rattle.answer.proofs.cursors.look.Tie as tie
+use Rattle.cursors.proofs.settling.look.Statement.{statement}
+use Rattle.cursors.proofs.settling.look.Tie as tie
 
 start-at-requires : tie.Need-start-at-requires
 start-at-requires c κs = search needs

@@ -1,7 +1,7 @@
--- `answer::pages::start_from` meets its contract. The file is there so that a wrong cursor is refused here and not in its callers.
+-- `cursors::pages::start_from` meets its contract. The file is there so that a wrong cursor is refused here and not in its callers.
 use borrow.Author.Needs.{needs}
-use Rattle.answer.proofs.pages.start_from.Statement.{statement}
-use Rattle.answer.proofs.pages.start_from.Tie as tie
+use Rattle.cursors.proofs.pages.start_from.Statement.{statement}
+use Rattle.cursors.proofs.pages.start_from.Tie as tie
 
 mul-pos : tie.Need-mul-pos
 mul-pos c = search needs

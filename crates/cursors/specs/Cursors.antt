@@ -32,6 +32,6 @@ pub record Touches (a : Asked) (p : ℕ → ℕ) (s u : ℕ) : Type 0 where
   pub reached : a .label s (p s) .start ≤ a .label u (p u) .end
 
 -- The cursors of the steps below s are in range, and their edges are not broken.
-pub record Held (a : Asked) (p : ℕ → ℕ) (s : ℕ) : Type 0 where
+pub record Unbroken (a : Asked) (p : ℕ → ℕ) (s : ℕ) : Type 0 where
   pub ranged : (j : ℕ) → j < s → p j < a .count j
   pub touches : (j : ℕ) → j < s → (u : ℕ) → a .hook j ≡ from u → Touches a p j u

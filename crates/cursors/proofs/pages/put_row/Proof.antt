@@ -1,4 +1,4 @@
--- `answer::pages::put_row` meets its contract. The loop's invariant: the first j positions are pasted in.
+-- `cursors::pages::put_row` meets its contract. The loop's invariant: the first j positions are pasted in.
 use Prim.Native.Nat.{ℕ, suc, _+_, _*_, _-_, _≤_, _<_}
 use mathlib.Core.Path.{_≡_, refl, sym, ap, _∙_, subst}
 use mathlib.Core.List.{List}
@@ -8,8 +8,8 @@ use native.Mathlib.Omega.{arith}
 use borrow.Author.Needs.{needs}
 use lib.ListN.{length, getD, set, drop, length-set, length-drop}
 use lib.Seq.{paste, paste-zero, paste-suc, getD-drop}
-use Rattle.answer.proofs.pages.put_row.Statement.{statement}
-use Rattle.answer.proofs.pages.put_row.Tie as tie
+use Rattle.cursors.proofs.pages.put_row.Statement.{statement}
+use Rattle.cursors.proofs.pages.put_row.Tie as tie
 
 abbrev Inv-loop : tie.InvT-loop
 Inv-loop out₀ to pos step width j₀ out j = (j ≤ width) × (length out ≡ length out₀) × (out ≡ paste out₀ to (drop step pos) j)

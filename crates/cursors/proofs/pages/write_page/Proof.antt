@@ -1,4 +1,4 @@
--- `answer::pages::write_page` meets its contract. The loop's invariant is `Writing`; the measure is what is left of the returned step's list.
+-- `cursors::pages::write_page` meets its contract. The loop's invariant is `Writing`; the measure is what is left of the returned step's list.
 use Prim.Native.Nat.{ℕ, suc, _+_, _*_, _-_, _/_, _≤_, _<_}
 use mathlib.Core.Path.{_≡_, refl, sym, ap, _∙_, subst}
 use mathlib.Core.List.{List}
@@ -10,13 +10,13 @@ use lib.ListN.{length, getD, set, take, drop, length-drop}
 use lib.Seq.{getD-set-same, length-paste, take-paste, drop-paste}
 use Rattle.meaning.specs.Limits.{mostLabels}
 use Rattle.meaning.specs.Picks.{Asked, Evidence, at}
-use Rattle.answer.specs.Plan.{planOf, Planned}
-use Rattle.answer.specs.Cursors.{LeastPick}
-use Rattle.answer.specs.Rows.{PartOf}
-use Rattle.answer.proofs.Paging.{Writing, page-begin, page-done, page-full, page-row, evidence-of, part-of, settled-found, settled-none, rows-fit, row-fits}
-use Rattle.answer.proofs.Turns.{ret-of, steps-of}
-use Rattle.answer.proofs.pages.write_page.Statement.{statement}
-use Rattle.answer.proofs.pages.write_page.Tie as tie
+use Rattle.cursors.specs.Plan.{planOf, Planned}
+use Rattle.cursors.specs.Cursors.{LeastPick}
+use Rattle.cursors.specs.RowParts.{PartOf}
+use Rattle.cursors.proofs.Paging.{Writing, page-begin, page-done, page-full, page-row, evidence-of, part-of, settled-found, settled-none, rows-fit, row-fits}
+use Rattle.cursors.proofs.SettleTurns.{ret-of, steps-of}
+use Rattle.cursors.proofs.pages.write_page.Statement.{statement}
+use Rattle.cursors.proofs.pages.write_page.Tie as tie
 
 abbrev Inv-loop : tie.InvT-loop
 Inv-loop index k ret hangs offsets counts place step width out₀ room pos₀ first₀ rows₀ to₀ out pos first rows to =

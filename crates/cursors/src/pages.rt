@@ -6,9 +6,9 @@ ghost use lib.Seq.{paste};
 ghost use Rattle.meaning.specs.Limits.{mostLabels, mostSteps};
 ghost use Rattle.meaning.specs.Picks.{at};
 ghost use Rattle.meaning.specs.Pages.{Paged};
-ghost use Rattle.answer.specs.Plan.{planOf, Planned};
-ghost use Rattle.answer.specs.Rows.{PartOf};
-use crate::cursors::settle;
+ghost use Rattle.cursors.specs.Plan.{planOf, Planned};
+ghost use Rattle.cursors.specs.RowParts.{PartOf};
+use crate::settling::settle;
 use meaning::Page;
 use meaning::Step;
 

@@ -6,9 +6,9 @@ ghost use lib.ListN.{length};
 ghost use Rattle.meaning.specs.Limits.{mostSteps};
 ghost use Rattle.meaning.specs.Picks.{at};
 ghost use Rattle.label.specs.Started.{Ascends};
-ghost use Rattle.answer.specs.Plan.{planOf, Planned};
-ghost use Rattle.answer.specs.Cursors.{Held, Settled};
-ghost use Rattle.answer.specs.Looking.{Looks};
+ghost use Rattle.cursors.specs.Plan.{planOf, Planned};
+ghost use Rattle.cursors.specs.Cursors.{Unbroken, Settled};
+ghost use Rattle.cursors.specs.Looking.{Looks};
 use meaning::Step;
 
 // Where a record starts, seen from a record that it is to lie in.
@@ -18,7 +18,7 @@ pub enum Sight {
     // After that record's end.
     Late,
     // Within that record.
-    Within,
+    Touching,
 }
 
 // Looks from record q of the body at `over` at record p of the n records of the body at `at`.
@@ -35,7 +35,7 @@ fn look(index: &[u8], at: usize, n: usize, p: usize, over: usize, q: usize) -> S
     if last < here {
         return Sight::Late;
     }
-    Sight::Within
+    Sight::Touching
 }
 
 // Moves the cursors on to the first pick at or after them, from step `first` on, below which no edge is broken. Says whether there is one.
@@ -49,7 +49,7 @@ pub fn settle(
     pos: &mut [usize; Step::MOST],
     first: usize,
 ) -> bool
-    requires { ⌜ Planned (now index) k ret (now hangs) (now offsets) (now counts) × (first ≤ k) × (length (now pos) ≡ mostSteps) × Held (planOf (now index) k ret (now hangs) (now offsets) (now counts)) (at (now pos)) first ⌝ }
+    requires { ⌜ Planned (now index) k ret (now hangs) (now offsets) (now counts) × (first ≤ k) × (length (now pos) ≡ mostSteps) × Unbroken (planOf (now index) k ret (now hangs) (now offsets) (now counts)) (at (now pos)) first ⌝ }
     ensures { λ r. ⌜ Settled (planOf (now (index .entry)) k ret (now (hangs .entry)) (now (offsets .entry)) (now (counts .entry))) (at (now (pos .entry))) r (now (pos .exit)) × (length (now (pos .exit)) ≡ mostSteps) ⌝ }
 {
     let mut s = first;
@@ -72,7 +72,7 @@ pub fn settle(
                     pos[u] = q + 1;
                     s = u;
                 }
-                Sight::Within => {
+                Sight::Touching => {
                     s += 1;
                 }
             }

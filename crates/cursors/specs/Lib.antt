@@ -1,0 +1,5 @@
+-- What the engine is lent, and what its parts promise.
+pub mod Plan
+pub mod Cursors
+pub mod Looking
+pub mod RowParts

@@ -19,13 +19,13 @@ abbrev start : tie.Else1 → tie.Start
 start e = e .before .before .before .before .before
 
 law : (e : tie.Else1) → Lawful (start e .args .index .now)
-law e = checked-lawful (start e .args .index .now) _ (e .if1 .left) (e .before .check .ensures)
+law e = checked-lawful (start e .args .index .now) _ (omega (arith, e .if1 .left)) (e .before .check .ensures)
 
 abbrev first : tie.Else2 → tie.Else1
 first e = e .before .before .before
 
 was-heard : (e : tie.Else2) → Heard (start (first e) .args .text .now) (e .before .before .read .result)
-was-heard e = heard (start (first e) .args .text .now) (e .before .before .read .result) (e .before .before .read .ensures) (e .if2 .left)
+was-heard e = heard (start (first e) .args .text .now) (e .before .before .read .result) (e .before .before .read .ensures) (omega (arith, e .if2 .left))
 
 abbrev second : tie.After-draw → tie.Else2
 second d = d .before .before
@@ -47,7 +47,7 @@ refused-requires : tie.Need-refused-requires
 refused-requires c κs = search needs
 
 returns : tie.Need-returns
-returns c = let s = c .before .before .before .before .before .before in refuse-index (s .args .whole) (s .args .index .now) (s .args .text .now) (s .args .place) (s .args .out .now) _ _ (c .before .before .check .ensures) (c .before .if1 .taken) (c .refused .ensures)
+returns c = let s = c .before .before .before .before .before .before in refuse-index (s .args .whole) (s .args .index .now) (s .args .text .now) (s .args .place) (s .args .out .now) _ _ (c .before .before .check .ensures) (λ zero. omega (arith, zero, c .before .if1 .taken)) (c .refused .ensures)
 
 read-requires : tie.Need-read-requires
 read-requires c κs = search needs
@@ -56,7 +56,7 @@ refused-requires-2 : tie.Need-refused-requires-2
 refused-requires-2 c κs = search needs
 
 returns-2 : tie.Need-returns-2
-returns-2 c = let e = c .before .before .before .before in let s = start e in refuse-text (s .args .whole) (s .args .index .now) (s .args .text .now) (s .args .place) (s .args .out .now) _ _ (law e) (c .before .before .before .read .ensures) (c .before .if2 .taken) (c .refused2 .ensures)
+returns-2 c = let e = c .before .before .before .before in let s = start e in refuse-text (s .args .whole) (s .args .index .now) (s .args .text .now) (s .args .place) (s .args .out .now) _ _ (law e) (c .before .before .before .read .ensures) (λ zero. omega (arith, zero, c .before .if2 .taken)) (c .refused2 .ensures)
 
 draw-requires : tie.Need-draw-requires
 draw-requires c κs = (law (first (c .before)), was-heard (c .before) .asks)

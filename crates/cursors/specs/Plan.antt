@@ -8,7 +8,7 @@ use Rattle.meaning.specs.Limits.{mostSteps, mostLabels}
 use Rattle.meaning.specs.Day.{labelAt}
 use Rattle.meaning.specs.Notation.{Hook, nothing, from}
 use Rattle.meaning.specs.Picks.{Asked, at}
-use Rattle.meaning.proofs.Laws.Day.{Fit}
+use Rattle.meaning.specs.Fit.{Fit}
 
 -- What a step hangs from, by its number: 255 is nothing.
 unfoldable pub hookOf : ℕ → Hook

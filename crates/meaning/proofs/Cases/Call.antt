@@ -15,6 +15,7 @@ use Rattle.meaning.specs.Limits.{mostText, mostSteps, mostDepth}
 use Rattle.meaning.specs.Names.{same}
 use Rattle.meaning.specs.Notation.{Path, write, Named, Follows, steps, depth, TooLong}
 use Rattle.meaning.specs.Picks.{asked}
+use Rattle.meaning.specs.Ends.{Stops}
 use Rattle.meaning.specs.Pages.{answerRoom, evidenceRoom}
 use Rattle.meaning.specs.Refusals.{Given, checkTable, questionTable, callTable}
 use Rattle.meaning.specs.Promises.{Checked, refused, Answered, Shown}
@@ -22,7 +23,7 @@ use Rattle.meaning.proofs.Decide.{passed, le-decides, lt-decides, eq-de
 use Rattle.meaning.proofs.Decide.Day.{checkOf, check-agrees}
 use Rattle.meaning.proofs.Decide.Notation.{namedB, named-decides}
 use Rattle.meaning.proofs.Laws.Same.{same-decides}
-use Rattle.meaning.proofs.Laws.Notation.{Stops, path-no-stop}
+use Rattle.meaning.proofs.Laws.Notation.{path-no-stop}
 use Rattle.meaning.proofs.Laws.Page.{refusal-is}
 use Rattle.meaning.proofs.Laws.Table.{checked-lawful, verdict-given, given-first, given-after}
 use Rattle.meaning.proofs.Cases.{Room, ample, just, Asking, IsRoom, joined, resultOf, over, AskRight}

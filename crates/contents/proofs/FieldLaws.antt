@@ -12,6 +12,7 @@ use Rattle.meaning.specs.Limits.{mostName}
 use Rattle.meaning.specs.Names.{initial, further, isName, Name, filled, Sooner}
 use Rattle.meaning.specs.Day.{rowAt, nameField}
 use Rattle.meaning.specs.Ends.{NoFurther}
+use Rattle.meaning.proofs.Laws.Bytes.{part-from, zero-at}
 use Rattle.name.specs.Runs.{nameRun}
 use Rattle.name.proofs.RunLaws.{run-name, run-of-name, run-within}
 use Rattle.contents.specs.Tests.{ZeroFrom, Named}
@@ -19,17 +20,11 @@ use Rattle.contents.proofs.Bounds.{below-or-not}
 
 -- The bytes from where row r begins to 16 bytes further on are its name field.
 pub field-part : (b : List ℕ) (r : ℕ) → take (rowAt r + mostName - rowAt r) (drop (rowAt r) b) ≡ nameField b r
-field-part b r = let e : rowAt r + mostName - rowAt r ≡ mostName = omega arith in ap (λ (n : ℕ). take n (drop (rowAt r) b)) e
+field-part b r = part-from b (rowAt r) mostName
 
 -- The name field of a row within the index has 16 bytes.
 pub field-length : (b : List ℕ) (r : ℕ) → rowAt r + 24 ≤ length b → length (nameField b r) ≡ mostName
 field-length b r l = length-take-le mostName (drop (rowAt r) b) (rw length-drop (omega arith))
-
--- In a list of zeros each byte is zero, and past its end too.
-zero-byte : (k i : ℕ) → getD {A = ℕ} (replicate k 0) i 0 ≡ 0
-zero-byte zero i = refl
-zero-byte (suc k) zero = refl
-zero-byte (suc k) (suc i) = zero-byte k i
 
 -- A name that is filled up has 16 bytes.
 pub filled-length : (n : List ℕ) → length n ≤ mostName → length (filled n) ≡ mostName
@@ -44,7 +39,7 @@ pub filled-zero : (n : List ℕ) (i : ℕ) → length n ≤ i → getD (filled n
 filled-zero n i l =
     let z : List ℕ = replicate (mostName - length n) 0 in
     let e : i ≡ length n + (i - length n) = omega arith in
-    ap (λ (j : ℕ). getD (n ++ z) j 0) e ∙ getD-append-add n z (i - length n) 0 ∙ zero-byte (mostName - length n) (i - length n)
+    ap (λ (j : ℕ). getD (n ++ z) j 0) e ∙ getD-append-add n z (i - length n) 0 ∙ zero-at (mostName - length n) (i - length n)
 
 -- A field that begins with a name's bytes, and has zeros behind them, is the name filled up.
 pub is-filled : (f n : List ℕ) → length f ≡ mostName → length n ≤ mostName → ((i : ℕ) → i < length n → getD f i 0 ≡ getD n i 0) → ZeroFrom f (length n) → f ≡ filled n

@@ -1,5 +1,5 @@
 -- Which records are returned, and which row is the evidence, by tests that try every choice of records.
-use Prim.Native.Nat.{ℕ, zero, suc, _<_}
+use Prim.Native.Nat.{ℕ, zero, suc, _≤_, _<_}
 use native.Mathlib.Omega.{arith}
 use mathlib.Core.Path.{_≡_, refl, sym, ap, subst, _∙_}
 use mathlib.Core.Logic.{⊎-elim}
@@ -163,13 +163,18 @@ module _ (a : Asked) where
         Parts : Type 0
         Parts = (length w ≡ a .steps) × (((s : ℕ) → s < a .steps → at w s < a .count s) × (((s : ℕ) → s < a .steps → Hung a (at w) s (a .hook s)) × ((at w (a .returned) ≡ i) × ((q : ℕ → ℕ) × Pick a q × Undercut i w q → ⊥))))
 
+        first : Parts → (q : ℕ → ℕ) → Pick a q → q (a .returned) ≡ i → (s : ℕ) → s < a .steps → at w s ≤ q s
+        first (long, (below, (hung, (here, none)))) q pick e s l = ⊎-elim (λ h. h) (λ h. absurd (none (q, pick, (e, (s, l, omega arith))))) (or-not (le-decides (at w s) (q s)))
+
         to : Parts → Evidence a i w
-        to (long, (below, (hung, (here, none)))) = record {
-          long = long;
-          pick = record { within = below; hung = hung };
-          here = here;
-          earliest = λ q pick e s l. ⊎-elim (λ h. h) (λ h. absurd (none (q, pick, (e, (s, l, omega arith))))) (or-not (le-decides (at w s) (q s)));
+        to parts = record {
+          long = parts .0;
+          pick = record { within = parts .1 .0; hung = parts .1 .1 .0 };
+          here = omega (arith, parts .1 .1 .1 .0);
+          earliest = λ q pick e s l. omega (arith, first parts q pick e s l);
         }
 
         back : Evidence a i w → Parts
-        back e = (e .long, (e .pick .within, (e .pick .hung, (e .here, λ u. omega (arith, e .earliest (u .0) (u .1) (u .2 .0) (u .2 .1 .0) (u .2 .1 .1), u .2 .1 .2)))))
+        back e =
+            let here : at w (a .returned) ≡ i = omega (arith, e .here) in
+            (e .long, (e .pick .within, (e .pick .hung, (here, λ u. omega (arith, e .earliest (u .0) (u .1) (u .2 .0) (u .2 .1 .0) (u .2 .1 .1), u .2 .1 .2)))))

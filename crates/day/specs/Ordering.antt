@@ -28,6 +28,6 @@ BodyWrong b = Disordered (labels b) (labelAt b 0)
 -- What is found at what comes next in a list, where a label has to start at `low` or later: the end, and nothing is wrong; a label that is wrong;
 -- or a label that is right, and the look goes on.
 pub data Looked (low : ℕ) (next : Next) (look : Look) : Type 0 where
-  ended : next ≡ End → look .going ≡ false → look .wrong ≡ false → Looked low next look
-  refused : (start end : ℕ) → next ≡ Label start end → (end ≤ start) ⊎ (start < low) → look .going ≡ false → look .wrong ≡ true → Looked low next look
-  right : (start end : ℕ) → next ≡ Label start end → start < end → low ≤ start → look .going ≡ true → look .low ≡ start + 1 → Looked low next look
+  at-end : next ≡ End → look .going ≡ false → look .wrong ≡ false → Looked low next look
+  wrong-label : (start end : ℕ) → next ≡ Label start end → (end ≤ start) ⊎ (start < low) → look .going ≡ false → look .wrong ≡ true → Looked low next look
+  right-label : (start end : ℕ) → next ≡ Label start end → start < end → low ≤ start → look .going ≡ true → look .low ≡ start + 1 → Looked low next look

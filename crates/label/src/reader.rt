@@ -34,9 +34,9 @@ fn next_at(body: &[u8], at: usize) -> Next
     }
 }
 
-// The place after one.
+// The place after one; no body has 2^61 labels.
 fn after(at: usize) -> usize
-    requires { ⌜ at + 1 < 2 ^ 64 ⌝ }
+    requires { ⌜ at < 2 ^ 61 ⌝ }
     ensures { λ r. ⌜ r ≡ at + 1 ⌝ }
 {
     at + 1

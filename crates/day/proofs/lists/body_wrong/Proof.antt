@@ -75,7 +75,7 @@ use Rattle.day.proofs.lists.body_wrong as body
 use Rattle.day.proofs.lists.body_wrong.Statement as stated
 use Rattle.day.proofs.lists.body_wrong.Code as code
 use Rattle.day.proofs.lists.body_wrong.Code.Mir as mirs
-use Rattle.day.proofs.Looking.{Facts, Turn, Less, less-wf, looked-first, there, lowers, looked-next, answers}
+use Rattle.day.proofs.Looking.{FoundAt, LookPlace, FewerLeft, fewer-left-wf, looked-first, there, fewer-left, looked-next, found-answers}
 
 -- The reader's type, over the signature's lifetimes.
 abbrev B : Lfts 1 → RattleType
@@ -232,7 +232,7 @@ module _ {M : Type 1} (𝓤 : URA M) (H : Heap 𝓤) (A : Atoms 𝓤) (W : Given
       At k s = ‵ (OwnR k) ∷ Tok ∷ ‵ (fat fullShare reader-ty l₂ 0 (mR k)) ∷ ‵ (fat fullShare S′.mir l₃ 0 (S′.lowered s))
           ∷ ‵ (froom tyBool l₆ 0) ∷ ‵ (froom reader-ty l₇ 0) ∷ ‵ (froom N′.mir l₈ 0) ∷ ‵ (froom reader-ty l₉ 0) ∷ Frame
 
-      abbrev Inv : Turn (now x) → List (Item 𝓤)
+      abbrev Inv : LookPlace (now x) → List (Item 𝓤)
       Inv y = At (y .0) (y .1)
 
       -- When the loop is left, the rest of the body runs.
@@ -240,7 +240,7 @@ module _ {M : Type 1} (𝓤 : URA M) (H : Heap 𝓤) (A : Atoms 𝓤) (W : Given
       Left = afterBlock 𝓤 H (afterSeq 𝓤 H (Wp 𝓤 H C Λ En mirs.t-6 (atReturn 𝓤 H En Post)) (atReturn 𝓤 H En Post))
 
       -- A turn: the reader is moved on, and what it hands out is looked at.
-      more : (k : ℕ) (s : Look) (f : Facts (now x) k s) → s .going ≡ true → Sq W (At k s) (runsᴳ C Λ En mirs.turn-1 (anyQ (afterTurn 𝓤 H (Below 𝓤 H A (Less (now x)) Inv (k, s, f)) Left)))
+      more : (k : ℕ) (s : Look) (f : FoundAt (now x) k s) → s .going ≡ true → Sq W (At k s) (runsᴳ C Λ En mirs.turn-1 (anyQ (afterTurn 𝓤 H (Below 𝓤 H A (FewerLeft (now x)) Inv (k, s, f)) Left)))
       unfolding afterTurn
       more k s f g =
           let fits : s .low < 2 ^ 32 = LL.owed S.the-type S′.the-laws s _ (f .1) .1 .1 .0 .1 in
@@ -277,10 +277,10 @@ module _ {M : Type 1} (𝓤 : URA M) (H : Heap 𝓤) (A : Atoms 𝓤) (W : Given
           -- [what the reader owns; the token; _2; _3; _6; _7; _8; _9; …]
           land-last ! (from ! (stop !)) (store ! 3 refl (typedS s′ u₂ is₃)) $ rewrite ! 3 (λ (w : Val). ‵ (fat fullShare S′.mir l₃ 0 w)) (toldS s′ u₂ is₃) refl $
           forget ! 4 refl $ forget ! 5 refl $ forget ! 6 refl $ forget ! 7 refl $
-          again ! (Less (now x)) Inv (k, s, f) (k + 1, s′, (looked-next (now x) k s f g t s′ t-is h, isS s′ u₂ is₃)) (lowers (now x) k s f g)))))))))))))))
+          again ! (FewerLeft (now x)) Inv (k, s, f) (k + 1, s′, (looked-next (now x) k s f g t s′ t-is h, isS s′ u₂ is₃)) (fewer-left (now x) k s f g)))))))))))))))
 
       -- The turn that leaves the loop, and the rest of the body.
-      ends : (k : ℕ) (s : Look) (f : Facts (now x) k s) → s .going ≡ false → Sq W (At k s) (runsᴳ C Λ En mirs.turn-1 (anyQ (afterTurn 𝓤 H (Below 𝓤 H A (Less (now x)) Inv (k, s, f)) Left)))
+      ends : (k : ℕ) (s : Look) (f : FoundAt (now x) k s) → s .going ≡ false → Sq W (At k s) (runsᴳ C Λ En mirs.turn-1 (anyQ (afterTurn 𝓤 H (Below 𝓤 H A (FewerLeft (now x)) Inv (k, s, f)) Left)))
       unfolding afterTurn
       ends k s f g =
           assigns ! (of-opd ! (load ! (from ! (fld ! refl (stop !))) (look-in ! 3 (sub ! 0 refl (whole !))))) (from ! (stop !)) (init ! 4 refl (tt, tt)) $
@@ -289,15 +289,15 @@ module _ {M : Type 1} (𝓤 : URA M) (H : Heap 𝓤) (A : Atoms 𝓤) (W : Given
           returns ! (look ! 10 refl) $ forget ! 2 refl $ forget ! 3 refl $ forget ! 4 refl $ forget ! 9 refl $ forget ! 10 refl $ drop ! $
           -- [the token; rooms for _2, _3, _6 to _9; what the body owns; rooms for _1, _0, _4 and _5; and that each dies]
           move ! (9 ∷ 12 ∷ 8 ∷ 13 ∷ 1 ∷ 14 ∷ 2 ∷ 15 ∷ 10 ∷ 16 ∷ 11 ∷ 17 ∷ 3 ∷ 18 ∷ 4 ∷ 19 ∷ 5 ∷ 20 ∷ 6 ∷ 21 ∷ []) $
-          free1 ! $ free1 ! $ free1 ! $ free1 ! $ free1 ! $ free1 ! $ free1 ! $ free1 ! $ free1 ! $ free1 ! $ free0 ! $ by ! (exits (s .wrong) (answers (now x) k s f g))
+          free1 ! $ free1 ! $ free1 ! $ free1 ! $ free1 ! $ free1 ! $ free1 ! $ free1 ! $ free1 ! $ free1 ! $ free0 ! $ by ! (exits (s .wrong) (found-answers (now x) k s f g))
 
-      turn-at : (y : Bool) (k : ℕ) (s : Look) (f : Facts (now x) k s) → s .going ≡ y → Sq W (At k s) (runsᴳ C Λ En mirs.turn-1 (anyQ (afterTurn 𝓤 H (Below 𝓤 H A (Less (now x)) Inv (k, s, f)) Left)))
+      turn-at : (y : Bool) (k : ℕ) (s : Look) (f : FoundAt (now x) k s) → s .going ≡ y → Sq W (At k s) (runsᴳ C Λ En mirs.turn-1 (anyQ (afterTurn 𝓤 H (Below 𝓤 H A (FewerLeft (now x)) Inv (k, s, f)) Left)))
       turn-at true k s f g = more k s f g
       turn-at false k s f g = ends k s f g
 
       -- The loop and the rest of the body.
-      looped : (k : ℕ) (s : Look) → Facts (now x) k s → Sq W (At k s) (runsᴳ C Λ En mirs.t-5 (atRet En Post))
-      looped k s f = first ! $ blocks ! $ loops ! 𝓣 (Less (now x)) (less-wf (now x)) Inv (λ y. turn-at (y .1 .going) (y .0) (y .1) (y .2) refl) (k, s, f)
+      looped : (k : ℕ) (s : Look) → FoundAt (now x) k s → Sq W (At k s) (runsᴳ C Λ En mirs.t-5 (atRet En Post))
+      looped k s f = first ! $ blocks ! $ loops ! 𝓣 (FewerLeft (now x)) (fewer-left-wf (now x)) Inv (λ y. turn-at (y .1 .going) (y .0) (y .1) (y .2) refl) (k, s, f)
 
     walk : Is (ShrSlice (named 0) κ u8) x (v ∷ []) → ent 𝓤 (onEntry 𝓤 H A body.signature (κ, tt) (q, tt) (x, tt) (v ∷ [], tt)) (WpFn 𝓤 H C Λ code.function (v ∷ []) Post)
     walk p =

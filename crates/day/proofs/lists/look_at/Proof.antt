@@ -3,7 +3,7 @@ use native.Mathlib.Omega.{arith}
 use mathlib.Core.Path.{refl}
 use mathlib.Core.Logic.{inl, inr}
 use borrow.Author.Needs.{needs}
-use Rattle.day.specs.Ordering.{ended, refused, right}
+use Rattle.day.specs.Ordering.{at-end, wrong-label, right-label}
 use Rattle.day.proofs.lists.look_at.Statement.{statement}
 use Rattle.day.proofs.lists.look_at.Tie as tie
 
@@ -14,19 +14,19 @@ enum-told : tie.Need-enum-told
 enum-told c = search needs
 
 returns : tie.Need-returns
-returns c = ended (c .enum-told .given .1) refl refl
+returns c = at-end (c .enum-told .given .1) refl refl
 
 returns-2 : tie.Need-returns-2
-returns-2 c = let a = c .before .before in refused (a .next .given .0 .0) (a .next .given .0 .1 .0) (a .next .given .1) (inl (omega (arith, c .if1 .taken))) refl refl
+returns-2 c = let a = c .before .before in wrong-label (a .next .given .0 .0) (a .next .given .0 .1 .0) (a .next .given .1) (inl (omega (arith, c .if1 .taken))) refl refl
 
 returns-3 : tie.Need-returns-3
-returns-3 c = let a = c .before .before .before in refused (a .next .given .0 .0) (a .next .given .0 .1 .0) (a .next .given .1) (inr (omega (arith, c .if2 .taken))) refl refl
+returns-3 c = let a = c .before .before .before in wrong-label (a .next .given .0 .0) (a .next .given .0 .1 .0) (a .next .given .1) (inr (omega (arith, c .before .if1 .left, c .if2 .taken))) refl refl
 
 add-t6 : tie.Need-add-t6
 add-t6 c = search needs
 
 returns-4 : tie.Need-returns-4
-returns-4 c = let a = c .before .before .before in right (a .next .given .0 .0) (a .next .given .0 .1 .0) (a .next .given .1) (omega (arith, c .before .if1 .left)) (omega (arith, c .if2 .left)) refl refl
+returns-4 c = let a = c .before .before .before in right-label (a .next .given .0 .0) (a .next .given .0 .1 .0) (a .next .given .1) (omega (arith, c .before .if1 .left)) (omega (arith, c .if2 .left)) refl refl
 
 pub look-at-spec : {M : Type 1} → statement M
 look-at-spec = tie.close (tie.spec enum-known-next enum-told returns returns-2 returns-3 add-t6 returns-4)

@@ -81,8 +81,8 @@ module _ {M : Type 1} (𝓤 : URA M) (H : Heap 𝓤) (A : Atoms 𝓤) (W : Given
   abbrev to : After 𝓤 H A mem run .Ghost
   to = ((tt, tt, tt, (d .at, tt), (vint w64 (d .at) ∷ [], tt)), tt)
 
-  goes-after : d .at < 2 ^ 64 → d .at + 1 < 2 ^ 64 → ent 𝓤 (emp 𝓤) (After 𝓤 H A mem run .pre to)
-  goes-after fits next-fits = qed W [] ∵ says ! next-fits $ nothing ! $ frame ! $ nothing ! $ owned ! usize (Is usize) (uint-makes 𝓤 H A W w64) (d .at) _ (refl, fits) $ fjoin ! $ done !
+  goes-after : d .at < 2 ^ 64 → d .at < 2 ^ 61 → ent 𝓤 (emp 𝓤) (After 𝓤 H A mem run .pre to)
+  goes-after fits few = qed W [] ∵ says ! few $ nothing ! $ frame ! $ nothing ! $ owned ! usize (Is usize) (uint-makes 𝓤 H A W w64) (d .at) _ (refl, fits) $ fjoin ! $ done !
 
   said : (r : ℕ) → ent 𝓤 (ensured 𝓤 H A after.ended (after.clauses 𝓤 H A mem run) tt (d .at, tt) tt r) (fact 𝓤 (r ≡ d .at + 1))
   said r = exE 𝓤 _ (λ ws. snd∗ 𝓤 (sem 𝓤 H A (lasts after.ended tt (d .at, tt) ws)) (fact 𝓤 (r ≡ d .at + 1)))
@@ -100,12 +100,13 @@ module _ {M : Type 1} (𝓤 : URA M) (H : Heap 𝓤) (A : Atoms 𝓤) (W : Given
     walk wt next =
         let long : length (now (d .body)) < 2 ^ 64 = wt .1 .0 .1 .0 .fits in
         let fits : d .at < 2 ^ 64 = wt .1 .1 .0 .fits in
-        let next-fits : d .at + 1 < 2 ^ 64 = omega (arith, next, long) in
+        let few : d .at < 2 ^ 61 = omega (arith, next, long) in
+        let next-fits : d .at + 1 < 2 ^ 64 = omega (arith, few) in
         qed W ((‵ (flft κ q) ⊛ ‵ ftrue) ∷ ‵ (owns (B (κ, tt) ∷ []) (d, tt) (mach ∷ [], tt)) ∷ []) ∵ enter ! C Λ code.function (mach ∷ []) _ $
         alloc1 ! (λ l₀. alloc1 ! (λ l₁. alloc1 ! (λ l₂. alloc1 ! (λ l₃. alloc1 ! (λ l₄. alloc0 ! $ params1 ! $ pass1 ! (init ! 6 refl wt) $ pass0 ! $
         assigns ! (of-opd ! (load ! (from ! (fld ! refl (stop !))) (look-in ! 6 (sub ! 0 refl (whole !))))) (from ! (stop !)) (init ! 4 refl (tt, wt .1 .0)) $
         assigns ! (of-opd ! (load ! (from ! (fld ! refl (stop !))) (look-in ! 6 (sub ! 1 refl (whole !))))) (from ! (stop !)) (init ! 0 refl (tt, wt .1 .1 .0)) $
-        use0 W (raw (After 𝓤 H A mem run .pre to)) (goes-after fits next-fits) $
+        use0 W (raw (After 𝓤 H A mem run .pre to)) (goes-after fits few) $
         -- [what `after` asks; _4; …; room for _3; …; _2; …; _1; …; room for _0; …; the token; what the struct owns]
         calls-at ! fm (After 𝓤 H A mem run) known to (and-then ! (load ! (from ! (stop !)) (look ! 1 refl)) (no-more !)) (λ u.
         use1 W (later (some (λ (r : ℕ). (‵ ftrue ⊛ ‵ (usize .own r (u ∷ []))) ⊛ raw (ensured 𝓤 H A after.ended (after.clauses 𝓤 H A mem run) tt (d .at, tt) tt r)))) (id⊢ 𝓤 _) $ await ! tt $ pick ! (λ r.

@@ -3,7 +3,8 @@ use Prim.Native.Nat.{_≤_, _<_}
 use native.Mathlib.Omega.{arith}
 use borrow.Author.Needs.{needs}
 use borrow.Author.Tests.{lt-ltb, le-ltb}
-use mathlib.Core.Path.{_∙_}
+use mathlib.Core.Path.{_≡_, _∙_}
+use Rattle.meaning.specs.Day.{labelAt}
 use Rattle.label.specs.declared.reader.Next.the-variants.{Label}
 use Rattle.label.specs.Reading.{labels}
 use Rattle.label.proofs.reader.next_at.Statement.{statement}
@@ -19,7 +20,9 @@ returns : tie.Need-returns
 returns c =
     let s = c .before .before .before .before in
     let below : s .args .at < labels (s .args .body .now) = omega (arith, c .before .before .if1 .taken) in
-    (λ i. Label (c .before .start-at .ensures .0 i) (c .end-at .ensures .0 i)) ∙ simp (lt-ltb _ _ below)
+    let starts : c .before .start-at .result ≡ labelAt (s .args .body .now) 0 (s .args .at) .start = c .before .start-at .ensures .0 in
+    let ends : c .end-at .result ≡ labelAt (s .args .body .now) 0 (s .args .at) .end = c .end-at .ensures .0 in
+    (λ i. Label (starts i) (ends i)) ∙ simp (lt-ltb _ _ below)
 
 returns-2 : tie.Need-returns-2
 returns-2 c =

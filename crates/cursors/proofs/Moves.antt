@@ -37,6 +37,10 @@ pub record Settling (a : Asked) (low : ℕ → ℕ) (xs : List ℕ) (s : ℕ) : 
   pub later : AtMost a low (at xs)
   pub held : Unbroken a (at xs) s
 
+-- What is known of the steps below s is known of those below each step before it.
+pub unbroken-before : {a : Asked} {p : ℕ → ℕ} (s t : ℕ) → t ≤ s → Unbroken a p s → Unbroken a p t
+unbroken-before s t l h = record { ranged = λ j k. h .ranged j (omega arith); touches = λ j k. h .touches j (omega arith) }
+
 -- A fact of each element after a store: at the stored place, and at each other.
 pub set-cases : (P : ℕ → ℕ → Type 0) (xs : List ℕ) (s r : ℕ) → s < length xs → P s r → ((j : ℕ) → j ≢ s → P j (at xs j)) → (j : ℕ) → P j (at (set xs s r) j)
 set-cases P xs s r l here other j = go (ℕ-discrete j s)
@@ -126,12 +130,13 @@ module _ (a : Asked) (fit : Fit a) (low : ℕ → ℕ) where
   jump xs s u r w sk e sl up first =
       raise xs s s r w (omega arith) (omega arith) sl (omega arith) (jump-bound (at xs) s u r (w .bound) sk e first)
 
-  -- The cursor of u leaves a record that is done for, and the walk falls back to u.
-  pub back : (xs : List ℕ) (s u : ℕ) → Settling a low xs s → s < a .steps → a .hook s ≡ from u → s < length xs
-      → a .label u (at xs u) .end < a .label s (at xs s) .start → Settling a low (set xs u (at xs u + 1)) u
-  back xs s u w sk e sl past =
+  -- The cursor of u leaves a record that is done for, and goes to the next, v. The walk falls back to u, or to a step before it.
+  pub back : (xs : List ℕ) (s u v t : ℕ) → Settling a low xs s → s < a .steps → a .hook s ≡ from u → s < length xs → v ≡ at xs u + 1 → t ≤ u
+      → a .label u (at xs u) .end < a .label s (at xs s) .start → Settling a low (set xs u v) t
+  back xs s u v t w sk e sl next tu past =
       let us : u < s = fit .upward s u sk e in
-      raise xs s u (at xs u + 1) w (omega arith) (omega arith) (omega arith) (omega arith) (step-bound (at xs) s u (w .bound) sk e past)
+      let r = raise xs s u v w (omega arith) (omega arith) (omega arith) (omega arith) (λ q pick f. omega (arith, step-bound (at xs) s u (w .bound) sk e past q pick f)) in
+      record { bound = r .bound; later = r .later; held = unbroken-before u t tu (r .held) }
 
   -- All steps have been passed: the cursors are the least pick.
   pub settled : (xs : List ℕ) → Settling a low xs (a .steps) → LeastPick a low (at xs)

@@ -18,7 +18,7 @@ use Rattle.meaning.specs.Fit.{Fit}
 use Rattle.meaning.proofs.Laws.Pick.{same-pick}
 use Rattle.meaning.proofs.Laws.Record.{recordsOf, records-of}
 use Rattle.cursors.specs.Cursors.{AtMost, LeastPick, NoPick, Settled, found, ended, Unbroken}
-use Rattle.cursors.proofs.Moves.{set-cases, edge-of}
+use Rattle.cursors.proofs.Moves.{set-cases, edge-of, unbroken-before}
 
 -- i is the first returned record at `place` or later.
 pub record NextRecord (a : Asked) (place i : ℕ) : Type 0 where
@@ -151,11 +151,11 @@ module _ (a : Asked) (fit : Fit a) (Row : ℕ → List ℕ → Type 0) (place ro
         let rec : Records a (at xs (a .returned)) (i ∷ js) = records-next a (at xs (a .returned)) i js (next-of a fit xs (w .floor) ys least) (records-of a fit (i + 1)) in
         ending (i ∷ js) rec (record { refusal = 0; rows = n; more = true; next = i }) refl refl (omega (arith, e)) (sym (lt-ltb n (n + suc (length js)) (omega arith))) refl
 
-    -- A row v is written behind the others.
+    -- A row v is written behind the others. The cursors are settled again from the returned step on, or from a step before it.
     pub page-row : n < room → length ys ≡ 32 → a .steps ≤ 32 → (out′ v : List ℕ) → Row (at ys (a .returned)) v → length out′ ≡ length out
-        → take (to + width) out′ ≡ take to out ++ v → drop (to + width) out′ ≡ drop (to + width) out
-        → Writing a Row place room width entry out′ (set ys (a .returned) (at ys (a .returned) + 1)) (n + 1) (to + width) (a .returned)
-    page-row l yl k32 out′ v is-row same head tail =
+        → take (to + width) out′ ≡ take to out ++ v → drop (to + width) out′ ≡ drop (to + width) out → (first′ : ℕ) → first′ ≤ a .returned
+        → Writing a Row place room width entry out′ (set ys (a .returned) (at ys (a .returned) + 1)) (n + 1) (to + width) first′
+    page-row l yl k32 out′ v is-row same head tail first′ fl =
         let i : ℕ = at ys (a .returned) in
         let rl : a .returned < length ys = omega (arith, fit .returned-lt) in
         record {
@@ -165,7 +165,7 @@ module _ (a : Asked) (fit : Fit a) (Row : ℕ → List ℕ → Type 0) (place ro
           to-is = omega (arith, w .to-is, suc-mul n width, ap (λ (k : ℕ). k * width) (add-one n));
           floor = floor-next a fit xs (w .floor) ys least rl;
           first-le = omega (arith, fit .returned-lt);
-          held = held-next a fit xs (w .floor) ys least (i + 1);
+          held = unbroken-before (a .returned) first′ fl (held-next a fit xs (w .floor) ys least (i + 1));
           is = w .is ++ (i ∷ []);
           long = length-append (w .is) (i ∷ []) ∙ omega (arith, w .long);
           rows = subst (λ (u : List ℕ). Rows Row (w .is ++ (i ∷ [])) u) (sym head) (rows-more i v (w .rows) is-row);
@@ -174,6 +174,11 @@ module _ (a : Asked) (fit : Fit a) (Row : ℕ → List ℕ → Type 0) (place ro
               let here : at (set ys (a .returned) (i + 1)) (a .returned) ≡ i + 1 = getD-set-same ys (a .returned) (i + 1) 0 rl in
               rw append-assoc (w .rest (i ∷ js) (records-next a (at xs (a .returned)) i js (next-of a fit xs (w .floor) ys least) (rw here at rec)));
         }
+
+-- The invariant is about the loop's own numbers.
+pub writing-with : {a : Asked} {Row : ℕ → List ℕ → Type 0} {place room width : ℕ} {entry out : List ℕ} (ys : List ℕ) (s here here′ n n′ to to′ : ℕ) {first : ℕ}
+    → here′ ≡ here → n′ ≡ n → to′ ≡ to → Writing a Row place room width entry out (set ys s here) n to first → Writing a Row place room width entry out (set ys s here′) n′ to′ first
+writing-with ys s here here′ n n′ to to′ e₁ e₂ e₃ w = rw (e₁, e₂, e₃) w
 
 -- Zeros are zero everywhere, and behind their end.
 pub zeros : (n j : ℕ) → getD {A = ℕ} (replicate n 0) j 0 ≡ 0

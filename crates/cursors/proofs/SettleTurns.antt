@@ -115,19 +115,21 @@ module _ (b : List ℕ) (k ret : ℕ) (hangs offsets counts : List ℕ) (plan : 
           unfolding planOf
           jump-less = omega (arith, remaining-falls (at counts) xs k s r sk (omega (arith, w .len, plan .few)) raised room)
 
-        -- The record starts after the end of the record above it.
-        module _ (late : labelAt b (at offsets u) (at xs u) .end < labelAt b (at offsets s) (at xs s) .start) where
-          pub turn-back : SettleTurn a low (set xs u (at xs u + 1)) u
-          unfolding planOf
-          turn-back = record {
-            len = simp length-set (w .len);
-            s-le = omega (arith, up-lt);
-            st = back a (plan .fit) low xs s u (w .st) sk hook (omega (arith, w .len, plan .few)) late;
-          }
+        -- The record starts after the end of the record above it, whose cursor goes to the next record, v. The walk falls back to that
+        -- step, or to a step before it.
+        pub turn-back : (v t : ℕ) → v ≡ at xs u + 1 → t ≤ u → labelAt b (at offsets u) (at xs u) .end < labelAt b (at offsets s) (at xs s) .start
+            → SettleTurn a low (set xs u v) t
+        unfolding planOf
+        turn-back v t next tu late = record {
+          len = simp length-set (w .len);
+          s-le = omega (arith, up-lt);
+          st = back a (plan .fit) low xs s u v t (w .st) sk hook (omega (arith, w .len, plan .few)) next tu late;
+        }
 
-          pub back-less : μ a (set xs u (at xs u + 1)) u < μ a xs s
-          unfolding planOf
-          back-less = omega (arith, up-lt, plan .few, remaining-falls (at counts) xs k u (at xs u + 1) (omega (arith, up-lt)) (omega (arith, up-lt, w .len, plan .few)) (omega arith) above-room)
+        -- Less is left when that cursor is raised, wherever the walk goes on.
+        pub back-less : (v t : ℕ) → at xs u < v → μ a (set xs u v) t < μ a xs s
+        unfolding planOf
+        back-less v t up = omega (arith, remaining-falls (at counts) xs k u v (omega (arith, up-lt)) (omega (arith, up-lt, w .len, plan .few)) up above-room)
 
         -- It starts within that record.
         pub turn-on : labelAt b (at offsets u) (at xs u) .start < labelAt b (at offsets s) (at xs s) .start

@@ -6,10 +6,22 @@ use native.Mathlib.Nat.{le-antisymm}
 use native.Mathlib.Numerals.{add-one}
 use native.Mathlib.Omega.{arith}
 use borrow.Author.Needs.{needs}
+use mir.Syntax.{w32}
+use mir.Val.{Fits}
 use lib.ListN.{length, getD, set, drop, length-set, length-drop}
 use lib.Seq.{paste, paste-zero, paste-suc, getD-drop}
+use Rattle.meaning.specs.Limits.{mostLabels}
 use Rattle.cursors.proofs.pages.put_row.Statement.{statement}
 use Rattle.cursors.proofs.pages.put_row.Tie as tie
+
+-- One number more is pasted in, where it is the right one and is stored at the right place.
+put-on : (entry out pos : List ℕ) (to step j place s : ℕ) → out ≡ paste entry to (drop step pos) j → place ≡ to + j → s ≡ step + j → to + j < length entry → j < length (drop step pos)
+    → set out place (getD pos s 0) ≡ paste entry to (drop step pos) (j + 1)
+put-on entry out pos to step j place s is there from l m = rw (is, there, from, ← getD-drop step pos j 0, add-one) (paste-suc entry to (drop step pos) j 0 l m)
+
+-- A list position fits in 32 bits.
+small-fits : {p : ℕ} → p < mostLabels → Fits w32 p
+small-fits l = record { fits = omega arith }
 
 abbrev Inv-loop : tie.InvT-loop
 Inv-loop out₀ to pos step width j₀ out j = (j ≤ width) × (length out ≡ length out₀) × (out ≡ paste out₀ to (drop step pos) j)
@@ -30,7 +42,7 @@ element-copy-out-p : tie.Need-element-copy-out-p Inv-loop μ-loop
 element-copy-out-p c = search needs
 
 cast-out : tie.Need-cast-out Inv-loop μ-loop
-cast-out c = let t = c .before .before .before in record { fits = omega (arith, t .pre .3 (t .args .step + c .before .before .loop .j) (omega arith)) }
+cast-out c = let t = c .before .before .before in small-fits (t .pre .3 _ (omega arith))
 
 add-out : tie.Need-add-out Inv-loop μ-loop
 add-out c = search needs
@@ -50,12 +62,10 @@ loop-less c = search needs
 loop-again : tie.Need-loop-again Inv-loop μ-loop
 loop-again c =
     let t = c .before .before .before in
-    let l = c .before .before .loop in
-    let from : getD (drop (t .args .step) (t .args .pos .now)) (l .j) 0 ≡ getD (t .args .pos .now) (t .args .step + l .j) 0 = getD-drop (t .args .step) (t .args .pos .now) (l .j) 0 in (
+    let l = c .before .before .loop in (
       omega arith,
       simp length-set (l .inv .1),
-      rw (l .inv .2, ← from, add-one)
-          (paste-suc (t .args .out .now) (t .args .to) (drop (t .args .step) (t .args .pos .now)) (l .j) 0 (omega arith) (omega (arith, length-drop (t .args .step) (t .args .pos .now)))),
+      put-on (t .args .out .now) (l .out) (t .args .pos .now) (t .args .to) (t .args .step) (l .j) _ _ (l .inv .2) (omega arith) (omega arith) (omega arith) (omega (arith, length-drop (t .args .step) (t .args .pos .now))),
     )
 
 same-length : tie.Need-same-length Inv-loop μ-loop

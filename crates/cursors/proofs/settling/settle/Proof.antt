@@ -148,10 +148,10 @@ element-write-pos-2 : tie.Need-element-write-pos-2 Inv-loop μ-loop
 element-write-pos-2 c = small₂ (c .before .before .before .before .before .before)
 
 loop-less-3 : tie.Need-loop-less-3 Inv-loop μ-loop
-loop-less-3 c = let e = c .before .before .before .before .before .before in let i = in₂ e in let see : Sees e Late = subst (Sees e) (c .enum-told .given .1) (c .before .before .look .ensures) in back-less _ _ _ _ _ _ (i .before .before .before .pre .0) _ _ _ (i .before .loop .inv) (i .loop-test .taken) (e .before .before .if1 .left) _ refl (e .if2 .left) see
+loop-less-3 c = let e = c .before .before .before .before .before .before in let i = in₂ e in back-less _ _ _ _ _ _ (i .before .before .before .pre .0) _ _ _ (i .before .loop .inv) (i .loop-test .taken) (e .before .before .if1 .left) _ refl (e .if2 .left) _ _ (omega arith)
 
 loop-again-3 : tie.Need-loop-again-3 Inv-loop μ-loop
-loop-again-3 c = let e = c .before .before .before .before .before .before in let i = in₂ e in let see : Sees e Late = subst (Sees e) (c .enum-told .given .1) (c .before .before .look .ensures) in turn-back _ _ _ _ _ _ (i .before .before .before .pre .0) _ _ _ (i .before .loop .inv) (i .loop-test .taken) (e .before .before .if1 .left) _ refl (e .if2 .left) see
+loop-again-3 c = let e = c .before .before .before .before .before .before in let i = in₂ e in let see : Sees e Late = subst (Sees e) (c .enum-told .given .1) (c .before .before .look .ensures) in turn-back _ _ _ _ _ _ (i .before .before .before .pre .0) _ _ _ (i .before .loop .inv) (i .loop-test .taken) (e .before .before .if1 .left) _ refl (e .if2 .left) _ _ (omega arith) (omega (arith, up-lt₂ e)) see
 
 enum-told-2 : tie.Need-enum-told-2 Inv-loop μ-loop
 enum-told-2 c = search needs

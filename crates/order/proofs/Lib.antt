@@ -6,3 +6,4 @@ pub mod Building
 pub mod Naming
 pub mod Filling
 pub mod Passing
+pub mod Fixed

@@ -51,10 +51,22 @@ module _ (t : Lists) (pos : ℕ → ℕ) (xs : List ℕ) (key : ℕ) (ascend : A
       go (yes k) = k
       go (no d) = absurd (omega (arith, keys .key r l .small (lt-of-not-le d), root .some (omega arith), root-least (t .many) xs (keys .tree) r l))
 
+  -- No least key is more than one past all keys.
+  at-most-past : key ≤ past
+  at-most-past = ⊎-elim (λ e. omega (arith, root .none (sym e))) (λ some. go (root .some some) (root-leaf (t .many) xs (keys .tree) some)) (eq-or-lt-of-le {n = 0} {m = t .many} (omega arith))
+    where
+      go : key ≡ nth xs 1 → (j : ℕ) × (j < t .many) × (nth xs (t .many + j) ≡ nth xs 1) → key ≤ past
+      go top (j, l, e) = here (decLe (t .count j) (pos j))
+        where
+          here : Dec (t .count j ≤ pos j) → key ≤ past
+          here (yes k) = omega (arith, keys .key j l .none k)
+          here (no d) = omega (arith, keys .key j l .small (lt-of-not-le d))
+
   -- So the least key names what comes next.
   pub names-of : Names t pos key
   names-of = record {
     some = λ h. let n = named h in rw (← n .1 .list) (n .1 .comes);
     start = λ h. let n = named h in n .1 .start ∙ ap (λ (r : ℕ). startOf t (next pos r)) (n .1 .list);
     none = all-done;
+    most = at-most-past;
   }

@@ -28,11 +28,12 @@ pub record Cursors (b places : List ℕ) : Type 0 where
   pub long : length places ≡ mostTags
   pub each : (r : ℕ) → r < tags b → AtLabel b r (nth places r)
 
--- The walk's number names the list and the start of what comes next, or says that all were handed out.
+-- The walk's number names the list and the start of what comes next, or is one past all such numbers and says that all were handed out.
 pub record Names (t : Lists) (pos : ℕ → ℕ) (least : ℕ) : Type 0 where
   pub some : least < past → Comes t pos (least % mostTags)
   pub start : least < past → least / mostTags ≡ startOf t (next pos (least % mostTags))
   pub none : past ≤ least → Done t pos
+  pub most : least ≤ past
 
 -- What is lent to a walk before it begins: the lists lie within the index and ascend, and the arrays are long enough.
 pub record Lent (b : List ℕ) (m : ℕ) (tree places : List ℕ) : Type 0 where

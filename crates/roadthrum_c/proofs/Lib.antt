@@ -1,2 +1,3 @@
 -- Why the four numbers are right and fixed.
 pub mod Fixed
+pub mod Passing

@@ -42,7 +42,7 @@ pub record SettleTurn (a : Asked) (low : ℕ → ℕ) (xs : List ℕ) (s : ℕ) 
   pub st : Settling a low xs s
 
 -- What falls with each turn: what is left of the lists, and then the steps to come.
-abbrev pub μ : Asked → List ℕ → ℕ → ℕ
+unfoldable pub μ : Asked → List ℕ → ℕ → ℕ
 μ a xs s = 33 * remaining (a .count) xs (a .steps) + (32 - s)
 
 module _ (b : List ℕ) (k ret : ℕ) (hangs offsets counts : List ℕ) (plan : Planned b k ret hangs offsets counts) where
@@ -65,7 +65,7 @@ module _ (b : List ℕ) (k ret : ℕ) (hangs offsets counts : List ℕ) (plan : 
     -- The cursor of step s is in range.
     module _ (room : at xs s < at counts s) where
       pub on-less : μ a xs (s + 1) < μ a xs s
-      unfolding planOf
+      unfolding planOf μ
       on-less = omega (arith, plan .few)
 
       -- The step hangs from nothing.
@@ -112,7 +112,7 @@ module _ (b : List ℕ) (k ret : ℕ) (hangs offsets counts : List ℕ) (plan : 
           }
 
           pub jump-less : μ a (set xs s r) s < μ a xs s
-          unfolding planOf
+          unfolding planOf μ
           jump-less = omega (arith, remaining-falls (at counts) xs k s r sk (omega (arith, w .len, plan .few)) raised room)
 
         -- The record starts after the end of the record above it, whose cursor goes to the next record, v. The walk falls back to that
@@ -128,7 +128,7 @@ module _ (b : List ℕ) (k ret : ℕ) (hangs offsets counts : List ℕ) (plan : 
 
         -- Less is left when that cursor is raised, wherever the walk goes on.
         pub back-less : (v t : ℕ) → at xs u < v → μ a (set xs u v) t < μ a xs s
-        unfolding planOf
+        unfolding planOf μ
         back-less v t up = omega (arith, remaining-falls (at counts) xs k u v (omega (arith, up-lt)) (omega (arith, up-lt, w .len, plan .few)) up above-room)
 
         -- It starts within that record.

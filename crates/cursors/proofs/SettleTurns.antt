@@ -97,23 +97,25 @@ module _ (b : List ℕ) (k ret : ℕ) (hangs offsets counts : List ℕ) (plan : 
         unfolding planOf
         ascends i j = plan .fit .ascending s i j
 
+        -- Less is left when the step's own cursor is raised.
+        pub jump-less : (v : ℕ) → at xs s < v → μ a (set xs s v) s < μ a xs s
+        unfolding planOf μ
+        jump-less v up = omega (arith, remaining-falls (at counts) xs k s v sk (omega (arith, w .len, plan .few)) up room)
+
         -- The record starts at or before the record above it, and r is the first that starts later.
         module _ (r : ℕ) (early : labelAt b (at offsets s) (at xs s) .start ≤ labelAt b (at offsets u) (at xs u) .start)
             (found : Started b (at offsets s) (at counts s) (labelAt b (at offsets u) (at xs u) .start) r) where
-          raised : at xs s < r
+          pub raised : at xs s < r
           raised = at-least {P = λ j. j ≡ r} (suc (at xs s)) (λ j l e. omega (arith, found .rest (at xs s) (omega arith) room)) r refl
 
-          pub turn-jump : SettleTurn a low (set xs s r) s
+          -- The cursor goes on to v, and so past no record that starts later.
+          pub turn-jump : (v : ℕ) → at xs s < v → v ≤ r → SettleTurn a low (set xs s v) s
           unfolding planOf
-          turn-jump = record {
+          turn-jump v up most = record {
             len = simp length-set (w .len);
             s-le = w .s-le;
-            st = jump a (plan .fit) low xs s u r (w .st) sk hook (omega (arith, w .len, plan .few)) raised (λ i l m. found .first i l);
+            st = jump a (plan .fit) low xs s u v (w .st) sk hook (omega (arith, w .len, plan .few)) up (λ i l m. found .first i (omega arith));
           }
-
-          pub jump-less : μ a (set xs s r) s < μ a xs s
-          unfolding planOf μ
-          jump-less = omega (arith, remaining-falls (at counts) xs k s r sk (omega (arith, w .len, plan .few)) raised room)
 
         -- The record starts after the end of the record above it, whose cursor goes to the next record, v. The walk falls back to that
         -- step, or to a step before it.

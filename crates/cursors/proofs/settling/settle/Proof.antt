@@ -11,7 +11,7 @@ use Rattle.cursors.specs.Cursors.{Settled, found, ended}
 use Rattle.cursors.specs.declared.settling.Sight.{Sight}
 use Rattle.cursors.specs.declared.settling.Sight.the-variants.{Early, Late, Touching}
 use Rattle.cursors.specs.Looking.{Looks}
-use Rattle.cursors.proofs.SettleTurns.{SettleTurn, μ, turn-begin, turn-end, turn-none, turn-free, turn-jump, turn-back, turn-on, on-less, jump-less, back-less, above-held, above-room, up-lt, ascends}
+use Rattle.cursors.proofs.SettleTurns.{SettleTurn, μ, turn-begin, turn-end, turn-none, turn-free, turn-jump, raised, turn-back, turn-on, on-less, jump-less, back-less, above-held, above-room, up-lt, ascends}
 use Rattle.cursors.proofs.settling.settle.Statement.{statement}
 use Rattle.cursors.proofs.settling.settle.Tie as tie
 
@@ -62,6 +62,10 @@ above-held₂ e = let i = in₂ e in above-held _ _ _ _ _ _ (i .before .before .
 -- A step's number is below 32.
 small₂ : (e : tie.Else2 Inv-loop μ-loop) → u₂ e < 32
 small₂ e = let i = in₂ e in omega (arith, up-lt₂ e, i .loop-test .taken, i .before .before .before .pre .0 .few)
+
+-- The first record that starts later is one further on.
+raised₂ : (e : tie.Else2 Inv-loop μ-loop) (r : ℕ) → Sees e (Early r) → at (pos₂ e) (s₂ e) < r
+raised₂ e r see = let i = in₂ e in raised _ _ _ _ _ _ (i .before .before .before .pre .0) _ _ _ (i .before .loop .inv) (i .loop-test .taken) (e .before .before .if1 .left) _ refl (e .if2 .left) r (see .0) (see .1)
 
 loop-holds : tie.Need-loop-holds Inv-loop μ-loop
 loop-holds c = turn-begin _ _ _ _ _ _ (c .before .pre .0) _ _ (c .before .pre .2) (c .before .pre .1) (c .before .pre .3)
@@ -131,10 +135,10 @@ element-write-pos : tie.Need-element-write-pos Inv-loop μ-loop
 element-write-pos c = search needs
 
 loop-less-2 : tie.Need-loop-less-2 Inv-loop μ-loop
-loop-less-2 c = let e = c .before .before .before .before .before .before .before in let i = in₂ e in let see : Sees e (Early (c .before .r .given .0 .0)) = subst (Sees e) (c .before .r .given .1) (c .before .before .before .look .ensures) in jump-less _ _ _ _ _ _ (i .before .before .before .pre .0) _ _ _ (i .before .loop .inv) (i .loop-test .taken) (e .before .before .if1 .left) _ refl (e .if2 .left) _ (see .0) (see .1)
+loop-less-2 c = let e = c .before .before .before .before .before .before .before in let i = in₂ e in let see : Sees e (Early (c .before .r .given .0 .0)) = subst (Sees e) (c .before .r .given .1) (c .before .before .before .look .ensures) in jump-less _ _ _ _ _ _ (i .before .before .before .pre .0) _ _ _ (i .before .loop .inv) (i .loop-test .taken) (e .before .before .if1 .left) _ refl (e .if2 .left) _ (omega (arith, e .before .before .if1 .left, raised₂ e (c .before .r .given .0 .0) see))
 
 loop-again-2 : tie.Need-loop-again-2 Inv-loop μ-loop
-loop-again-2 c = let e = c .before .before .before .before .before .before .before in let i = in₂ e in let see : Sees e (Early (c .before .r .given .0 .0)) = subst (Sees e) (c .before .r .given .1) (c .before .before .before .look .ensures) in turn-jump _ _ _ _ _ _ (i .before .before .before .pre .0) _ _ _ (i .before .loop .inv) (i .loop-test .taken) (e .before .before .if1 .left) _ refl (e .if2 .left) _ (see .0) (see .1)
+loop-again-2 c = let e = c .before .before .before .before .before .before .before in let i = in₂ e in let see : Sees e (Early (c .before .r .given .0 .0)) = subst (Sees e) (c .before .r .given .1) (c .before .before .before .look .ensures) in turn-jump _ _ _ _ _ _ (i .before .before .before .pre .0) _ _ _ (i .before .loop .inv) (i .loop-test .taken) (e .before .before .if1 .left) _ refl (e .if2 .left) _ (see .0) (see .1) _ (omega (arith, e .before .before .if1 .left, raised₂ e (c .before .r .given .0 .0) see)) (omega arith)
 
 enum-told : tie.Need-enum-told Inv-loop μ-loop
 enum-told c = search needs

@@ -1,8 +1,5 @@
 -- What the functions' proofs rest on, with no mention of code.
 pub mod CheckLaws
-pub mod Bodies
-pub mod Listing
-pub mod Looking
 pub mod Sweeping
 pub mod Opening
 pub mod Passing

@@ -9,7 +9,7 @@ use Rattle.meaning.specs.Limits.{mostNested}
 use Rattle.meaning.specs.Labels.{Lists, Place, Holds, Nested}
 use Rattle.order.specs.Walk.{startOf, Seen, Waits, Sorted, next, Comes, Moved}
 use Rattle.order.proofs.WalkLaws.{below-or, precedes-le, seen-old, seen-new, seen-next, waits-old}
-use Rattle.day.specs.Parts.{Ordered}
+use Rattle.lists.specs.Ordering.{Ordered}
 use Rattle.day.specs.Sweep.{LiesIn, Before, Fine, Swept, pushed}
 use Rattle.day.proofs.Sweeping.{fine-sym, pushed-below, pushed-top}
 

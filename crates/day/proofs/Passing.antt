@@ -4,7 +4,7 @@ use native.Mathlib.Omega.{arith}
 use mathlib.Core.Path.{_≡_}
 use mathlib.Core.Logic.{_⊎_, inl, inr, _≢_, ⊎-elim}
 use Rattle.meaning.specs.Labels.{Lists, Place, labelOf, Holds, Share, Cross, Tangled}
-use Rattle.day.specs.Parts.{Ordered}
+use Rattle.lists.specs.Ordering.{Ordered}
 use Rattle.order.specs.Walk.{startOf, endOf, Done}
 use Rattle.order.proofs.WalkLaws.{done-seen}
 use Rattle.day.specs.Sweep.{Fine, Swept}

@@ -10,7 +10,7 @@ use Rattle.meaning.proofs.Decide.{or-not, lt-decides, eq-decides, le-decides}
 use Rattle.order.specs.Walk.{startOf, endOf, Sorted, next, Comes, Moved}
 use Rattle.order.proofs.WalkLaws.{precedes-le}
 use Rattle.day.specs.declared.sweep.State.{State}
-use Rattle.day.specs.Parts.{Ordered}
+use Rattle.lists.specs.Ordering.{Ordered}
 use Rattle.day.specs.Sweep.{LiesIn, Swept, pushed, Closes, Refuses, Same, Innermost, Topmost, ClosesOne, OpensOne}
 use Rattle.day.proofs.Sweeping.{sweep-pop, sweep-clash}
 use Rattle.day.proofs.Opening.{sweep-deep, sweep-push}

@@ -1,5 +1,4 @@
 -- What the parts of the check promise to each other.
 pub mod Parts
-pub mod Ordering
 pub mod Entries
 pub mod Sweep

@@ -13,7 +13,7 @@ use Rattle.order.specs.Walk.{startOf, endOf, Seen, Waits, next, Moved}
 use Rattle.order.specs.Standing.{cursor, Names, Standing, Begun}
 use Rattle.day.specs.declared.open.Open.{Open}
 use Rattle.day.specs.declared.sweep.State.{State}
-use Rattle.day.specs.Parts.{Ordered}
+use Rattle.lists.specs.Ordering.{Ordered}
 
 -- The label at x lies inside the one at y.
 abbrev pub LiesIn : Lists → Place → Place → Type 0

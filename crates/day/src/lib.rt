@@ -1,10 +1,8 @@
 // The check of a day index.
-mod lists;
 mod open;
 mod sweep;
 
 ghost use Rattle.meaning.specs.Promises.{Checked};
-use lists::lists_wrong;
 use sweep::nesting_wrong;
 
 // The check call: the number of the first reason for which the index is refused, or 0 exactly for a lawful one. Each part may rest on what
@@ -16,7 +14,7 @@ pub fn check(index: &[u8]) -> u32
     if refusal != 0 {
         return refusal;
     }
-    if lists_wrong(index) {
+    if lists::lists_wrong(index) {
         return 5;
     }
     if nesting_wrong(index) {

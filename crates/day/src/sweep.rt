@@ -6,7 +6,7 @@ ghost use Rattle.meaning.specs.Limits.{mostNested};
 ghost use Rattle.meaning.specs.Answers.{Decides};
 ghost use Rattle.meaning.specs.Day.{listsOf, WrongNesting};
 ghost use Rattle.contents.specs.Parts.{Placed};
-ghost use Rattle.day.specs.Parts.{Ordered};
+ghost use Rattle.lists.specs.Ordering.{Ordered};
 ghost use Rattle.day.specs.Sweep.{Closes, Refuses, Topmost, BeforeTurn, Turned, Fresh};
 use super::open;
 use super::open::Open;

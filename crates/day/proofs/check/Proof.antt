@@ -10,7 +10,7 @@ use Rattle.meaning.proofs.Decide.{if-true, if-false}
 use Rattle.contents.specs.Parts.{contentsTable}
 use Rattle.contents.proofs.Placing.{placed-of}
 use Rattle.contents.proofs.TableLaws.{contents-clear}
-use Rattle.day.proofs.Listing.{ordered-of}
+use Rattle.lists.proofs.Listing.{ordered-of}
 use Rattle.day.proofs.CheckLaws.{contents-refuses, lists-refuse, none-refuses}
 use Rattle.day.proofs.check.Statement.{statement}
 use Rattle.day.proofs.check.Tie as tie

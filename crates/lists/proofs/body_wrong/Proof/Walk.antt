@@ -43,17 +43,17 @@ use Rattle.label.proofs.reader.hand_out as hands
 use Rattle.label.proofs.reader.hand_out.Symbol.{name as #label·reader·hand-out}
 use Rattle.label.proofs.reader.moved_on as moved
 use Rattle.label.proofs.reader.moved_on.Symbol.{name as #label·reader·moved-on}
-use Rattle.day.specs.declared.lists.Look.{Look}
-use Rattle.day.specs.Ordering.{Looked}
-use Rattle.day.proofs.lists.Look as S
-use Rattle.day.proofs.lists.Look.Laws as S′
-use Rattle.day.proofs.lists.look_at as looks
-use Rattle.day.proofs.lists.look_at.Symbol.{name as #lists·look-at}
-use Rattle.day.proofs.lists.body_wrong as body
-use Rattle.day.proofs.lists.body_wrong.Code as code
-use Rattle.day.proofs.lists.body_wrong.Code.Mir as mirs
-use Rattle.day.proofs.Looking.{FoundAt, LookPlace, FewerLeft, fewer-left-wf, looked-first, there, fewer-left, looked-next, found-answers}
-use Rattle.day.proofs.lists.body_wrong.Proof.Passed.{B, α, v, Own, R, mR, OwnR, toldR, toldS, isS, typedR, typedN, typedS, Tok, New, HandOut, MovedOn, LookAt, Ends, to-new, goes-new, new-said, to-hands, goes-hands, hands-said, to-moved, goes-moved, moved-said, to-look, goes-look, look-said, exits}
+use Rattle.lists.specs.declared.Look.{Look}
+use Rattle.lists.specs.Ordering.{Looked}
+use Rattle.lists.proofs.Look as S
+use Rattle.lists.proofs.Look.Laws as S′
+use Rattle.lists.proofs.look_at as looks
+use Rattle.lists.proofs.look_at.Symbol.{name as #lists·look-at}
+use Rattle.lists.proofs.body_wrong as body
+use Rattle.lists.proofs.body_wrong.Code as code
+use Rattle.lists.proofs.body_wrong.Code.Mir as mirs
+use Rattle.lists.proofs.Looking.{FoundAt, LookPlace, FewerLeft, fewer-left-wf, looked-first, there, fewer-left, looked-next, found-answers}
+use Rattle.lists.proofs.body_wrong.Proof.Passed.{B, α, v, Own, R, mR, OwnR, toldR, toldS, isS, typedR, typedN, typedS, Tok, New, HandOut, MovedOn, LookAt, Ends, to-new, goes-new, new-said, to-hands, goes-hands, hands-said, to-moved, goes-moved, moved-said, to-look, goes-look, look-said, exits}
 
 module _ {M : Type 1} (𝓤 : URA M) (H : Heap 𝓤) (A : Atoms 𝓤) (W : Given 𝓤 H A) (mem : Memory → SProp 𝓤) (run : Routine → Fun 𝓤) (κ : Lft) (q : Share) (x : RefT (List ℕ)) (𝓣 : Tables 𝓤 H)
     (known-new : Triple 𝓤 (𝓣 .C #label·reader·new) (New 𝓤 H A mem run)) (known-hands : Triple 𝓤 (𝓣 .C #label·reader·hand-out) (HandOut 𝓤 H A mem run))

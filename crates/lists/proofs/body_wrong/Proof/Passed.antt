@@ -44,12 +44,12 @@ use Rattle.label.proofs.reader.Next.Laws as N′
 use Rattle.label.proofs.reader.new as new
 use Rattle.label.proofs.reader.hand_out as hands
 use Rattle.label.proofs.reader.moved_on as moved
-use Rattle.day.specs.declared.lists.Look.{Look}
-use Rattle.day.specs.Ordering.{BodyWrong, Looked}
-use Rattle.day.proofs.lists.Look as S
-use Rattle.day.proofs.lists.Look.Laws as S′
-use Rattle.day.proofs.lists.look_at as looks
-use Rattle.day.proofs.lists.body_wrong as body
+use Rattle.lists.specs.declared.Look.{Look}
+use Rattle.lists.specs.Ordering.{BodyWrong, Looked}
+use Rattle.lists.proofs.Look as S
+use Rattle.lists.proofs.Look.Laws as S′
+use Rattle.lists.proofs.look_at as looks
+use Rattle.lists.proofs.body_wrong as body
 
 -- The reader's type, over the signature's lifetimes.
 abbrev pub B : Lfts 1 → RattleType

@@ -29,15 +29,15 @@ use Rattle.label.proofs.reader.hand_out.Met as hands-thm
 use Rattle.label.proofs.reader.moved_on.Symbol as moved-def
 use Rattle.label.proofs.reader.moved_on.Symbol.{name as #label·reader·moved-on}
 use Rattle.label.proofs.reader.moved_on.Met as moved-thm
-use Rattle.day.proofs.lists.look_at.Symbol as looks-def
-use Rattle.day.proofs.lists.look_at.Symbol.{name as #lists·look-at}
-use Rattle.day.proofs.lists.look_at.Met as looks-thm
-use Rattle.day.proofs.lists.body_wrong.Key.{name as #lists·body-wrong}
-use Rattle.day.proofs.lists.body_wrong as body
-use Rattle.day.proofs.lists.body_wrong.Statement as stated
-use Rattle.day.proofs.lists.body_wrong.Code as code
-use Rattle.day.proofs.lists.body_wrong.Proof.Passed.{stayed, New, HandOut, MovedOn, LookAt}
-use Rattle.day.proofs.lists.body_wrong.Proof.Walk.{walk}
+use Rattle.lists.proofs.look_at.Symbol as looks-def
+use Rattle.lists.proofs.look_at.Symbol.{name as #lists·look-at}
+use Rattle.lists.proofs.look_at.Met as looks-thm
+use Rattle.lists.proofs.body_wrong.Key.{name as #lists·body-wrong}
+use Rattle.lists.proofs.body_wrong as body
+use Rattle.lists.proofs.body_wrong.Statement as stated
+use Rattle.lists.proofs.body_wrong.Code as code
+use Rattle.lists.proofs.body_wrong.Proof.Passed.{stayed, New, HandOut, MovedOn, LookAt}
+use Rattle.lists.proofs.body_wrong.Proof.Walk.{walk}
 mod Passed
 mod Walk
 
@@ -60,4 +60,4 @@ body-wrong-spec 𝓤 H 𝓜 𝓖 𝓡 =
     (cited 𝓤 H (New 𝓤 H (𝓖 .A) (𝓜 .mem) (𝓡 .run)) 𝓜 𝓡 code.env #label·reader·new new-def.routine code.calls-label·reader·new (new-thm.met 𝓤 H 𝓜 𝓖 𝓡))
     (cited 𝓤 H (HandOut 𝓤 H (𝓖 .A) (𝓜 .mem) (𝓡 .run)) 𝓜 𝓡 code.env #label·reader·hand-out hands-def.routine code.calls-label·reader·hand-out (hands-thm.met 𝓤 H 𝓜 𝓖 𝓡))
     (cited 𝓤 H (MovedOn 𝓤 H (𝓖 .A) (𝓜 .mem) (𝓡 .run)) 𝓜 𝓡 code.env #label·reader·moved-on moved-def.routine code.calls-label·reader·moved-on (moved-thm.met 𝓤 H 𝓜 𝓖 𝓡))
-    (cited 𝓤 H (LookAt 𝓤 H (𝓖 .A) (𝓜 .mem) (𝓡 .run)) 𝓜 𝓡 code.env #lists·look-at looks-def.routine code.calls-day·lists·look-at (looks-thm.met 𝓤 H 𝓜 𝓖 𝓡)))
+    (cited 𝓤 H (LookAt 𝓤 H (𝓖 .A) (𝓜 .mem) (𝓡 .run)) 𝓜 𝓡 code.env #lists·look-at looks-def.routine code.calls-lists·look-at (looks-thm.met 𝓤 H 𝓜 𝓖 𝓡)))

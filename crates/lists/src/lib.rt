@@ -3,7 +3,7 @@ ghost use Prim.Native.Nat.{_<_};
 ghost use Rattle.meaning.specs.Answers.{Decides};
 ghost use Rattle.meaning.specs.Day.{tags, listsOf, WrongLists};
 ghost use Rattle.contents.specs.Parts.{Placed};
-ghost use Rattle.day.specs.Ordering.{BodyWrong, ListWrong, Looked};
+ghost use Rattle.lists.specs.Ordering.{BodyWrong, ListWrong, Looked};
 use contents::rows;
 use label::reader;
 use label::reader::Next;

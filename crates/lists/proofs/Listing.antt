@@ -8,8 +8,7 @@ use mathlib.Core.Logic.{inl, inr, ⊎-elim}
 use Rattle.meaning.specs.declared.Label.{Label}
 use Rattle.meaning.specs.Labels.{Lists, Unordered}
 use Rattle.meaning.proofs.Decide.{or-not, lt-decides}
-use Rattle.day.specs.Parts.{Ordered}
-use Rattle.day.specs.Ordering.{Disordered, ListWrong, backward, descent}
+use Rattle.lists.specs.Ordering.{Disordered, ListWrong, Ordered, backward, descent}
 
 -- The first i of n labels are right, and the next has to start at `low` or later.
 pub record Listing (n : ℕ) (label : ℕ → Label) (i low : ℕ) : Type 0 where

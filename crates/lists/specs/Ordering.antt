@@ -1,4 +1,4 @@
--- What looking at one list alone finds.
+-- What looking at one list alone finds, and what is left where nothing is found.
 use Prim.Native.Nat.{ℕ, _+_, _≤_, _<_}
 use mathlib.Core.Path.{_≡_}
 use mathlib.Core.Logic.{_⊎_}
@@ -10,7 +10,7 @@ use Rattle.meaning.specs.Day.{labelAt}
 use Rattle.label.specs.declared.reader.Next.{Next}
 use Rattle.label.specs.declared.reader.Next.the-variants.{Label, End}
 use Rattle.label.specs.Reading.{labels}
-use Rattle.day.specs.declared.lists.Look.{Look}
+use Rattle.lists.specs.declared.Look.{Look}
 
 -- Of n labels one has start ≥ end, or two do not ascend by start.
 pub data Disordered (n : ℕ) (label : ℕ → Meant) : Type 0 where
@@ -31,3 +31,12 @@ pub data Looked (low : ℕ) (next : Next) (look : Look) : Type 0 where
   at-end : next ≡ End → look .going ≡ false → look .wrong ≡ false → Looked low next look
   wrong-label : (start end : ℕ) → next ≡ Label start end → (end ≤ start) ⊎ (start < low) → look .going ≡ false → look .wrong ≡ true → Looked low next look
   right-label : (start end : ℕ) → next ≡ Label start end → start < end → low ≤ start → look .going ≡ true → look .low ≡ start + 1 → Looked low next look
+
+-- List r is right by itself: its labels are ordered, and it ascends strictly by start.
+pub record ListRight (t : Lists) (r : ℕ) : Type 0 where
+  pub ordered : (i : ℕ) → i < t .count r → t .label r i .start < t .label r i .end
+  pub ascending : (i j : ℕ) → i < j → j < t .count r → t .label r i .start < t .label r j .start
+
+-- What refusal 5 leaves: every list is right by itself.
+abbrev pub Ordered : Lists → Type 0
+Ordered t = (r : ℕ) → r < t .many → ListRight t r

@@ -14,11 +14,11 @@ use Rattle.label.specs.declared.reader.Next.{Next}
 use Rattle.label.specs.declared.reader.Next.the-variants.{Label, End}
 use Rattle.label.specs.Reading.{labels, nextAt}
 use Rattle.label.proofs.ReaderLaws.{Says, next-says}
-use Rattle.day.specs.declared.lists.Look.{Look}
-use Rattle.day.specs.Ordering.{BodyWrong, Looked, backward, at-end, wrong-label, right-label}
-use Rattle.day.proofs.Listing.{Listing, listing-begin, listing-descent, listing-on, listing-end}
-use Rattle.day.proofs.lists.Look as S
-use Rattle.day.proofs.lists.Look.Laws as S′
+use Rattle.lists.specs.declared.Look.{Look}
+use Rattle.lists.specs.Ordering.{BodyWrong, Looked, backward, at-end, wrong-label, right-label}
+use Rattle.lists.proofs.Listing.{Listing, listing-begin, listing-descent, listing-on, listing-end}
+use Rattle.lists.proofs.Look as S
+use Rattle.lists.proofs.Look.Laws as S′
 
 -- What the look at the labels up to place k has found: it goes on, and they are right, the one at k with them; or it is over, and its answer is right.
 abbrev pub Found : Bool → List ℕ → ℕ → Look → Type 0

@@ -3,9 +3,9 @@ use native.Mathlib.Omega.{arith}
 use mathlib.Core.Path.{refl}
 use mathlib.Core.Logic.{inl, inr}
 use borrow.Author.Needs.{needs}
-use Rattle.day.specs.Ordering.{at-end, wrong-label, right-label}
-use Rattle.day.proofs.lists.look_at.Statement.{statement}
-use Rattle.day.proofs.lists.look_at.Tie as tie
+use Rattle.lists.specs.Ordering.{at-end, wrong-label, right-label}
+use Rattle.lists.proofs.look_at.Statement.{statement}
+use Rattle.lists.proofs.look_at.Tie as tie
 
 enum-known-next : tie.Need-enum-known-next
 enum-known-next c = search needs

@@ -5,11 +5,11 @@ use borrow.Author.Count.{below-more}
 use borrow.Author.Needs.{needs}
 use Rattle.meaning.specs.Answers.{holds, fails}
 use Rattle.meaning.specs.Day.{listsOf}
-use Rattle.day.specs.Ordering.{ListWrong}
+use Rattle.lists.specs.Ordering.{ListWrong}
 use Rattle.meaning.proofs.Decide.{if-true, if-false}
-use Rattle.day.proofs.Listing.{unordered-by, none-unordered}
-use Rattle.day.proofs.lists.lists_wrong.Statement.{statement}
-use Rattle.day.proofs.lists.lists_wrong.Tie as tie
+use Rattle.lists.proofs.Listing.{unordered-by, none-unordered}
+use Rattle.lists.proofs.lists_wrong.Statement.{statement}
+use Rattle.lists.proofs.lists_wrong.Tie as tie
 
 abbrev Inv-loop : tie.InvT-loop
 Inv-loop index m r₀ r = (k : ℕ) → k < r → ListWrong (listsOf index) k → ⊥

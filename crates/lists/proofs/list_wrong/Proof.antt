@@ -4,10 +4,10 @@ use mathlib.Core.List.{List}
 use borrow.Author.Needs.{needs}
 use Rattle.meaning.specs.Answers.{Decides}
 use Rattle.meaning.proofs.Decide.{decides-as}
-use Rattle.day.specs.Ordering.{BodyWrong}
-use Rattle.day.proofs.Bodies.{list-by-body, body-by-list}
-use Rattle.day.proofs.lists.list_wrong.Statement.{statement}
-use Rattle.day.proofs.lists.list_wrong.Tie as tie
+use Rattle.lists.specs.Ordering.{BodyWrong}
+use Rattle.lists.proofs.Bodies.{list-by-body, body-by-list}
+use Rattle.lists.proofs.list_wrong.Statement.{statement}
+use Rattle.lists.proofs.list_wrong.Tie as tie
 
 body-of-requires : tie.Need-body-of-requires
 body-of-requires c κs = search needs

@@ -1,3 +1,2 @@
 -- What the functions of this crate promise that document 01 has no word for.
 pub mod Started
-pub mod Reading

@@ -1,6 +1,4 @@
 // Little endian numbers in bytes, and the labels of a body.
-pub mod reader;
-
 ghost use mathlib.Core.Path.{_≡_};
 ghost use Prim.Native.Nat.{_+_, _*_, _<_, _≤_};
 ghost use lib.ListN.{length};

@@ -10,10 +10,10 @@ use lib.WfN.{Nat·lt-wfRel}
 use denote.Laws.{Is}
 use Rattle.meaning.specs.Answers.{Decides, holds, fails}
 use Rattle.meaning.specs.Day.{labelAt}
-use Rattle.label.specs.declared.reader.Next.{Next}
-use Rattle.label.specs.declared.reader.Next.the-variants.{Label, End}
-use Rattle.label.specs.Reading.{labels, nextAt}
-use Rattle.label.proofs.ReaderLaws.{Says, next-says}
+use Rattle.reader.specs.declared.Next.{Next}
+use Rattle.reader.specs.declared.Next.the-variants.{Label, End}
+use Rattle.reader.specs.Reading.{labels, nextAt}
+use Rattle.reader.proofs.ReaderLaws.{Says, next-says}
 use Rattle.lists.specs.declared.Look.{Look}
 use Rattle.lists.specs.Ordering.{BodyWrong, Looked, backward, at-end, wrong-label, right-label}
 use Rattle.lists.proofs.Listing.{Listing, listing-begin, listing-descent, listing-on, listing-end}

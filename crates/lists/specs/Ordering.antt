@@ -7,9 +7,9 @@ use mathlib.Core.List.{List}
 use Rattle.meaning.specs.declared.Label.{Label as Meant}
 use Rattle.meaning.specs.Labels.{Lists}
 use Rattle.meaning.specs.Day.{labelAt}
-use Rattle.label.specs.declared.reader.Next.{Next}
-use Rattle.label.specs.declared.reader.Next.the-variants.{Label, End}
-use Rattle.label.specs.Reading.{labels}
+use Rattle.reader.specs.declared.Next.{Next}
+use Rattle.reader.specs.declared.Next.the-variants.{Label, End}
+use Rattle.reader.specs.Reading.{labels}
 use Rattle.lists.specs.declared.Look.{Look}
 
 -- Of n labels one has start ≥ end, or two do not ascend by start.

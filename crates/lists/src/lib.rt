@@ -5,8 +5,7 @@ ghost use Rattle.meaning.specs.Day.{tags, listsOf, WrongLists};
 ghost use Rattle.contents.specs.Parts.{Placed};
 ghost use Rattle.lists.specs.Ordering.{BodyWrong, ListWrong, Looked};
 use contents::rows;
-use label::reader;
-use label::reader::Next;
+use reader::Next;
 
 // What the look at a list has found so far.
 pub struct Look {

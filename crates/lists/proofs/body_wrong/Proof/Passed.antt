@@ -34,16 +34,16 @@ use denote.Triple.Walked.{says, Stays, stay-none-slice, walkOf, ends-at}
 use denote.Triple.Clauses.{ensured, lasts}
 use denote.Exit.{yes}
 use Rattle.meaning.specs.Answers.{Decides}
-use Rattle.label.specs.Reading.{labels, nextAt, readerAt}
-use Rattle.label.specs.declared.reader.Reader.{Reader}
-use Rattle.label.specs.declared.reader.Next.{Next}
-use Rattle.label.proofs.reader.Reader as T
-use Rattle.label.proofs.reader.Reader.Laws as T′
-use Rattle.label.proofs.reader.Next as N
-use Rattle.label.proofs.reader.Next.Laws as N′
-use Rattle.label.proofs.reader.new as new
-use Rattle.label.proofs.reader.hand_out as hands
-use Rattle.label.proofs.reader.moved_on as moved
+use Rattle.reader.specs.Reading.{labels, nextAt, readerAt}
+use Rattle.reader.specs.declared.Reader.{Reader}
+use Rattle.reader.specs.declared.Next.{Next}
+use Rattle.reader.proofs.Reader as T
+use Rattle.reader.proofs.Reader.Laws as T′
+use Rattle.reader.proofs.Next as N
+use Rattle.reader.proofs.Next.Laws as N′
+use Rattle.reader.proofs.new as new
+use Rattle.reader.proofs.hand_out as hands
+use Rattle.reader.proofs.moved_on as moved
 use Rattle.lists.specs.declared.Look.{Look}
 use Rattle.lists.specs.Ordering.{BodyWrong, Looked}
 use Rattle.lists.proofs.Look as S

@@ -30,19 +30,19 @@ use denote.Triple.Statement.{Triple}
 use denote.Triple.Call.{calls-at, calls-at-last}
 use denote.Triple.Entry.{onEntry}
 use denote.Triple.Clauses.{ensured}
-use Rattle.label.specs.Reading.{nextAt}
-use Rattle.label.specs.declared.reader.Reader.{Reader}
-use Rattle.label.specs.declared.reader.Next.{Next}
-use Rattle.label.proofs.reader.Reader as T
-use Rattle.label.proofs.reader.Reader.Laws as T′
-use Rattle.label.proofs.reader.Next as N
-use Rattle.label.proofs.reader.Next.Laws as N′
-use Rattle.label.proofs.reader.new as new
-use Rattle.label.proofs.reader.new.Symbol.{name as #label·reader·new}
-use Rattle.label.proofs.reader.hand_out as hands
-use Rattle.label.proofs.reader.hand_out.Symbol.{name as #label·reader·hand-out}
-use Rattle.label.proofs.reader.moved_on as moved
-use Rattle.label.proofs.reader.moved_on.Symbol.{name as #label·reader·moved-on}
+use Rattle.reader.specs.Reading.{nextAt}
+use Rattle.reader.specs.declared.Reader.{Reader}
+use Rattle.reader.specs.declared.Next.{Next}
+use Rattle.reader.proofs.Reader as T
+use Rattle.reader.proofs.Reader.Laws as T′
+use Rattle.reader.proofs.Next as N
+use Rattle.reader.proofs.Next.Laws as N′
+use Rattle.reader.proofs.new as new
+use Rattle.reader.proofs.new.Symbol.{name as #reader·new}
+use Rattle.reader.proofs.hand_out as hands
+use Rattle.reader.proofs.hand_out.Symbol.{name as #reader·hand-out}
+use Rattle.reader.proofs.moved_on as moved
+use Rattle.reader.proofs.moved_on.Symbol.{name as #reader·moved-on}
 use Rattle.lists.specs.declared.Look.{Look}
 use Rattle.lists.specs.Ordering.{Looked}
 use Rattle.lists.proofs.Look as S
@@ -56,8 +56,8 @@ use Rattle.lists.proofs.Looking.{FoundAt, LookPlace, FewerLeft, fewer-l
 use Rattle.lists.proofs.body_wrong.Proof.Passed.{B, α, v, Own, R, mR, OwnR, toldR, toldS, isS, typedR, typedN, typedS, Tok, New, HandOut, MovedOn, LookAt, Ends, to-new, goes-new, new-said, to-hands, goes-hands, hands-said, to-moved, goes-moved, moved-said, to-look, goes-look, look-said, exits}
 
 module _ {M : Type 1} (𝓤 : URA M) (H : Heap 𝓤) (A : Atoms 𝓤) (W : Given 𝓤 H A) (mem : Memory → SProp 𝓤) (run : Routine → Fun 𝓤) (κ : Lft) (q : Share) (x : RefT (List ℕ)) (𝓣 : Tables 𝓤 H)
-    (known-new : Triple 𝓤 (𝓣 .C #label·reader·new) (New 𝓤 H A mem run)) (known-hands : Triple 𝓤 (𝓣 .C #label·reader·hand-out) (HandOut 𝓤 H A mem run))
-    (known-moved : Triple 𝓤 (𝓣 .C #label·reader·moved-on) (MovedOn 𝓤 H A mem run)) (known-look : Triple 𝓤 (𝓣 .C #lists·look-at) (LookAt 𝓤 H A mem run)) where
+    (known-new : Triple 𝓤 (𝓣 .C #reader·new) (New 𝓤 H A mem run)) (known-hands : Triple 𝓤 (𝓣 .C #reader·hand-out) (HandOut 𝓤 H A mem run))
+    (known-moved : Triple 𝓤 (𝓣 .C #reader·moved-on) (MovedOn 𝓤 H A mem run)) (known-look : Triple 𝓤 (𝓣 .C #lists·look-at) (LookAt 𝓤 H A mem run)) where
   abbrev Post : Val → SProp 𝓤
   Post = Ends 𝓤 H A mem run κ q x
 

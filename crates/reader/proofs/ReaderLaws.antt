@@ -7,9 +7,9 @@ use mathlib.Core.Path.{_≡_, refl, sym, subst}
 use mathlib.Core.Bool.{Bool, cond}
 use mathlib.Core.List.{List}
 use Rattle.meaning.specs.Day.{labelAt}
-use Rattle.label.specs.declared.reader.Next.{Next}
-use Rattle.label.specs.declared.reader.Next.the-variants.{Label, End}
-use Rattle.label.specs.Reading.{labels, nextAt}
+use Rattle.reader.specs.declared.Next.{Next}
+use Rattle.reader.specs.declared.Next.the-variants.{Label, End}
+use Rattle.reader.specs.Reading.{labels, nextAt}
 
 -- What is known of a body and a place when this comes next there.
 abbrev pub Says : List ℕ → ℕ → Next → Type 0

@@ -5,10 +5,10 @@ use borrow.Author.Needs.{needs}
 use borrow.Author.Tests.{lt-ltb, le-ltb}
 use mathlib.Core.Path.{_≡_, _∙_}
 use Rattle.meaning.specs.Day.{labelAt}
-use Rattle.label.specs.declared.reader.Next.the-variants.{Label}
-use Rattle.label.specs.Reading.{labels}
-use Rattle.label.proofs.reader.next_at.Statement.{statement}
-use Rattle.label.proofs.reader.next_at.Tie as tie
+use Rattle.reader.specs.declared.Next.the-variants.{Label}
+use Rattle.reader.specs.Reading.{labels}
+use Rattle.reader.proofs.next_at.Statement.{statement}
+use Rattle.reader.proofs.next_at.Tie as tie
 
 start-at-requires : tie.Need-start-at-requires
 start-at-requires c κs = search needs

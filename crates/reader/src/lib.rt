@@ -2,9 +2,9 @@
 // is moved on from there. Each function over it is thin: the work is done by a function on the slice and the number.
 ghost use mathlib.Core.Path.{_≡_};
 ghost use Prim.Native.Nat.{_+_, _<_, _^_};
-ghost use Rattle.label.specs.Reading.{readerAt, nextAt, nextOf, LabelNext, onward};
-use crate::end_at;
-use crate::start_at;
+ghost use Rattle.reader.specs.Reading.{readerAt, nextAt, nextOf, LabelNext, onward};
+use label::end_at;
+use label::start_at;
 use meaning::Label;
 
 pub struct Reader<'a> {

@@ -44,21 +44,21 @@ use denote.Triple.Table.{entered, cited}
 use denote.Triple.Walked.{says, Stays, stay-none, walkOf, goes-none, Walks, ends-at, walked, walk-meets}
 use denote.Exit.{yes}
 use denote.Triple.Clauses.{ensured, lasts}
-use Rattle.label.specs.Reading.{nextAt}
-use Rattle.label.specs.declared.reader.Reader.{Reader}
-use Rattle.label.specs.declared.reader.Next.{Next}
-use Rattle.label.proofs.reader.Reader as T
-use Rattle.label.proofs.reader.Reader.Laws as T′
-use Rattle.label.proofs.reader.Next as S
-use Rattle.label.proofs.reader.Next.Laws as S′
-use Rattle.label.proofs.reader.next_at as step
-use Rattle.label.proofs.reader.next_at.Symbol as step-def
-use Rattle.label.proofs.reader.next_at.Symbol.{name as #label·reader·next-at}
-use Rattle.label.proofs.reader.next_at.Met as step-thm
-use Rattle.label.proofs.reader.hand_out.Key.{name as #label·reader·hand-out}
-use Rattle.label.proofs.reader.hand_out as hands
-use Rattle.label.proofs.reader.hand_out.Statement as stated
-use Rattle.label.proofs.reader.hand_out.Code as code
+use Rattle.reader.specs.Reading.{nextAt}
+use Rattle.reader.specs.declared.Reader.{Reader}
+use Rattle.reader.specs.declared.Next.{Next}
+use Rattle.reader.proofs.Reader as T
+use Rattle.reader.proofs.Reader.Laws as T′
+use Rattle.reader.proofs.Next as S
+use Rattle.reader.proofs.Next.Laws as S′
+use Rattle.reader.proofs.next_at as step
+use Rattle.reader.proofs.next_at.Symbol as step-def
+use Rattle.reader.proofs.next_at.Symbol.{name as #reader·next-at}
+use Rattle.reader.proofs.next_at.Met as step-thm
+use Rattle.reader.proofs.hand_out.Key.{name as #reader·hand-out}
+use Rattle.reader.proofs.hand_out as hands
+use Rattle.reader.proofs.hand_out.Statement as stated
+use Rattle.reader.proofs.hand_out.Code as code
 
 -- the struct's type, over the signature's lifetimes
 abbrev B : Lfts 1 → RattleType
@@ -129,7 +129,7 @@ module _ {M : Type 1} (𝓤 : URA M) (H : Heap 𝓤) (A : Atoms 𝓤) (W : Given
       suffices ! _ (ends-at 𝓤 H A hands.ended stayed (hands.clauses 𝓤 H A mem run) W (((κ, tt), (q, tt), tt, (d, tt), (mach ∷ [], tt)), tt) u r (tt, tt) (tt, tt)) $ says ! e $
       move ! (1 ∷ []) $ frame ! $ nothing ! $ move ! (2 ∷ 0 ∷ []) $ fjoin ! $ frame ! $ done !
 
-  module _ (C : Calls 𝓤 H) (Λ : Loops 𝓤 H) (fm : FmC 𝓤 H (W .laws) C) (known : Triple 𝓤 (C #label·reader·next-at) (NextAt 𝓤 H A mem run)) where
+  module _ (C : Calls 𝓤 H) (Λ : Loops 𝓤 H) (fm : FmC 𝓤 H (W .laws) C) (known : Triple 𝓤 (C #reader·next-at) (NextAt 𝓤 H A mem run)) where
     walk : Holds (hasTy (T′.mir (named 0)) mach) × WT mach → ent 𝓤 (onEntry 𝓤 H A hands.signature (κ, tt) (q, tt) (d, tt) (mach ∷ [], tt)) (WpFn 𝓤 H C Λ code.function (mach ∷ []) Post)
     walk wt =
         qed W (raw (onEntry 𝓤 H A hands.signature (κ, tt) (q, tt) (d, tt) (mach ∷ [], tt)) ∷ []) ∵ enter ! C Λ code.function (mach ∷ []) _ $
@@ -147,13 +147,13 @@ module _ {M : Type 1} (𝓤 : URA M) (H : Heap 𝓤) (A : Atoms 𝓤) (W : Given
         move ! (9 ∷ 10 ∷ []) $ free1 ! $ move ! (7 ∷ 8 ∷ []) $ free1 ! $ move ! (5 ∷ 6 ∷ []) $ free1 ! $ move ! (3 ∷ 4 ∷ []) $ free1 ! $ free0 ! $ by ! (exits r u e)))))))))
 
 module _ {M : Type 1} (𝓤 : URA M) (H : Heap 𝓤) (A : Atoms 𝓤) (W : Given 𝓤 H A) (mem : Memory → SProp 𝓤) (run : Routine → Fun 𝓤) where
-  hand-out-walks : (C : Calls 𝓤 H) (Λ : Loops 𝓤 H) → FmC 𝓤 H (W .laws) C → Triple 𝓤 (C #label·reader·next-at) (NextAt 𝓤 H A mem run)
+  hand-out-walks : (C : Calls 𝓤 H) (Λ : Loops 𝓤 H) → FmC 𝓤 H (W .laws) C → Triple 𝓤 (C #reader·next-at) (NextAt 𝓤 H A mem run)
       → Walks 𝓤 H A hands.ended stayed (WpFn 𝓤 H C Λ code.function) (hands.clauses 𝓤 H A mem run)
   hand-out-walks C Λ fm known = walked 𝓤 H A hands.ended stayed (hands.clauses 𝓤 H A mem run) (WpFn 𝓤 H C Λ code.function) (λ κs. (LL.vals (T.the-type (namedLft 1 0 tt κs)) (T′.the-laws (namedLft 1 0 tt κs)), tt)) (λ κs. (LL.tells (T.the-type (namedLft 1 0 tt κs)) (T′.the-laws (namedLft 1 0 tt κs)), tt))
       (λ κs qs bounds a g are. via 𝓤 _ (fst∗ 𝓤 _ (emp 𝓤)) (walk 𝓤 H A W mem run (κs .0) (qs .0) (a .0) C Λ fm known (LL.lawful (T.the-type (namedLft 1 0 tt κs)) (T′.the-laws (namedLft 1 0 tt κs)) 𝓤 H A W .typed (a .0) _ (are .0) .0)))
 
 hand-out-meets : {M : Type 1} (𝓤 : URA M) (H : Heap 𝓤) (A : Atoms 𝓤) (W : Given 𝓤 H A) (mem : Memory → SProp 𝓤) (run : Routine → Fun 𝓤) (𝓣 : Tables 𝓤 H)
-    → Triple 𝓤 (𝓣 .C #label·reader·next-at) (NextAt 𝓤 H A mem run)
+    → Triple 𝓤 (𝓣 .C #reader·next-at) (NextAt 𝓤 H A mem run)
     → Meets 𝓤 H A hands.signature (WpFn 𝓤 H (𝓣 .C) (𝓣 .Λ) code.function) (hands.spec 𝓤 H A mem run)
 hand-out-meets 𝓤 H A W mem run 𝓣 known-step = walk-meets 𝓤 H A hands.ended stayed W (goes-none 𝓤 H A W 1 B yes (λ κs x f. refl), tt) (hands.clauses 𝓤 H A mem run) (WpFn 𝓤 H (𝓣 .C) (𝓣 .Λ) code.function) (WpFn-mono 𝓤 H (W .laws) 𝓣 code.function)
     (hand-out-walks 𝓤 H A W mem run (𝓣 .C) (𝓣 .Λ) (fmOf 𝓤 H (W .laws) 𝓣) known-step)
@@ -162,6 +162,6 @@ pub hand-out-spec : {M : Type 1} → stated.statement M
 unfolding code.routine tablesOf
 hand-out-spec 𝓤 H 𝓜 𝓖 𝓡 =
     entered 𝓤 H (tripleOf 𝓤 H (𝓖 .A) hands.signature (hands.spec 𝓤 H (𝓖 .A) (𝓜 .mem) (𝓡 .run)))
-    (tables 𝓤 H 𝓜 𝓡 code.env .C) (tables 𝓤 H 𝓜 𝓡 code.env .Λ) #label·reader·hand-out code.function (code.unfolded 𝓤 H 𝓜 𝓡)
+    (tables 𝓤 H 𝓜 𝓡 code.env .C) (tables 𝓤 H 𝓜 𝓡 code.env .Λ) #reader·hand-out code.function (code.unfolded 𝓤 H 𝓜 𝓡)
     (hand-out-meets 𝓤 H (𝓖 .A) (givenOf 𝓤 H 𝓜 𝓖) (𝓜 .mem) (𝓡 .run) (tablesOf 𝓤 H 𝓜 (tables 𝓤 H 𝓜 𝓡 code.env))
-    (cited 𝓤 H (NextAt 𝓤 H (𝓖 .A) (𝓜 .mem) (𝓡 .run)) 𝓜 𝓡 code.env #label·reader·next-at step-def.routine code.calls-label·reader·next-at (step-thm.met 𝓤 H 𝓜 𝓖 𝓡)))
+    (cited 𝓤 H (NextAt 𝓤 H (𝓖 .A) (𝓜 .mem) (𝓡 .run)) 𝓜 𝓡 code.env #reader·next-at step-def.routine code.calls-reader·next-at (step-thm.met 𝓤 H 𝓜 𝓖 𝓡)))

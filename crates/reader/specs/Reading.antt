@@ -6,9 +6,9 @@ use lib.Dec.{ltb}
 use lib.ListN.{length}
 use denote.Ref.{RefT, now}
 use Rattle.meaning.specs.Day.{labelAt}
-use Rattle.label.specs.declared.reader.Reader.{Reader}
-use Rattle.label.specs.declared.reader.Next.{Next}
-use Rattle.label.specs.declared.reader.Next.the-variants.{Label, End}
+use Rattle.reader.specs.declared.Reader.{Reader}
+use Rattle.reader.specs.declared.Next.{Next}
+use Rattle.reader.specs.declared.Next.the-variants.{Label, End}
 
 -- How many whole labels a body by itself has.
 abbrev pub labels : List ℕ → ℕ

@@ -1,0 +1,2 @@
+-- What a reader hands out, as its callers use it.
+pub mod ReaderLaws

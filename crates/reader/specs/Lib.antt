@@ -1,0 +1,2 @@
+-- What a reader of one list's body promises.
+pub mod Reading

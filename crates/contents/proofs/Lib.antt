@@ -1,6 +1,5 @@
 -- What the functions' proofs rest on, with no mention of code.
 pub mod Bounds
-pub mod FieldLaws
 pub mod RowLaws
 pub mod Placing
 pub mod FindLaws

@@ -4,11 +4,11 @@ ghost use Prim.Native.Nat.{_+_, _*_, _≤_};
 ghost use lib.ListN.{length};
 ghost use Rattle.meaning.specs.Day.{rowAt, listAmong, listOf, bodyOf};
 ghost use Rattle.meaning.specs.Refusals.{Lawful};
-use crate::names::is_filled;
-use crate::names::name_field;
 use crate::rows::body_at;
 use crate::rows::list_of;
+use crate::rows::name_field;
 use crate::rows::tags_of;
+use filled::is_filled;
 use meaning::Body;
 
 // The list of a name among the first `many` rows, looked for from the last of them to the first, as `listAmong` does.

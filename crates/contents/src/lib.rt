@@ -1,6 +1,5 @@
-// The table of contents of a day index: its fields, its names, refusals 1 to 4, and looking up a name.
+// The table of contents of a day index: its fields, refusals 1 to 4, and looking up a name.
 mod by_name;
-mod names;
 pub mod rows;
 mod table;
 

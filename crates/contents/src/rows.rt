@@ -2,11 +2,13 @@
 ghost use mathlib.Core.Path.{_≡_};
 ghost use Prim.Native.Nat.{_+_, _*_, _<_, _≤_};
 ghost use lib.ListN.{length};
-ghost use Rattle.meaning.specs.Day.{tags, version, offset, count, rowAt, rowList};
+ghost use Rattle.meaning.specs.Limits.{mostName};
+ghost use Rattle.meaning.specs.Day.{tags, version, nameField, offset, count, rowAt, rowList};
 ghost use Rattle.contents.specs.Parts.{Placed, InIndex, bytesOf, rowBody};
 use meaning::Body;
 use meaning::Index;
 use meaning::Label;
+use meaning::Name;
 
 // T, the number of tags.
 pub fn tags_of(index: &[u8]) -> usize
@@ -21,6 +23,15 @@ pub fn version_of(index: &[u8]) -> u32
     ensures { λ r. ⌜ r ≡ version (now (index .entry)) ⌝ }
 {
     label::u16_at(index, 2)
+}
+
+// The name of row r, as a part of the index.
+pub fn name_field(index: &[u8], r: usize) -> &[u8]
+    requires { ⌜ rowAt r + 24 ≤ length (now index) ⌝ }
+    ensures { λ f. ⌜ (now f ≡ nameField (now (index .entry)) r) × (length (now f) ≡ mostName) ⌝ }
+{
+    let at = Index::HEAD_BYTES + Index::ROW_BYTES * r;
+    &index[at..at + Name::MOST_BYTES]
 }
 
 // Where the body of row r begins.

@@ -8,13 +8,13 @@ ghost use Rattle.meaning.specs.Refusals.{Verdict};
 ghost use Rattle.meaning.specs.Answers.{Decides};
 ghost use Rattle.contents.specs.Parts.{contentsTable};
 ghost use Rattle.contents.specs.Tests.{InOrder, AllRows};
-use crate::names::comes_before;
-use crate::names::has_name;
-use crate::names::name_field;
 use crate::rows::count_of;
+use crate::rows::name_field;
 use crate::rows::offset_of;
 use crate::rows::tags_of;
 use crate::rows::version_of;
+use filled::comes_before;
+use filled::has_name;
 use meaning::Index;
 use meaning::Label;
 

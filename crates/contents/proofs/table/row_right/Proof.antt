@@ -5,8 +5,8 @@ use mathlib.Core.Path.{_≡_, subst}
 use mathlib.Core.List.{List}
 use Rattle.meaning.specs.Day.{offset, nameField}
 use Rattle.meaning.specs.Answers.{Decides, fails}
-use Rattle.contents.specs.Tests.{Named}
 use Rattle.meaning.proofs.Decide.{if-not-true, if-not-false}
+use Rattle.filled.specs.Fields.{Named}
 use Rattle.contents.proofs.RowLaws.{row-as, row-named}
 use Rattle.contents.proofs.table.row_right.Statement.{statement}
 use Rattle.contents.proofs.table.row_right.Tie as tie

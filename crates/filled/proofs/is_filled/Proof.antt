@@ -1,4 +1,4 @@
--- `names::is_filled` meets its contract. The loop's invariant: the field has the name's first i bytes.
+-- `filled::is_filled` meets its contract. The loop's invariant: the field has the name's first i bytes.
 use borrow.Author.Needs.{needs}
 use borrow.Author.Count.{below-more}
 use Prim.Native.Nat.{ℕ, _-_, _≤_, _<_}
@@ -8,10 +8,10 @@ use mathlib.Core.List.{List}
 use lib.ListN.{length, getD}
 use Rattle.meaning.specs.Answers.{Decides, fails}
 use Rattle.meaning.proofs.Decide.{decides-as}
-use Rattle.contents.specs.Tests.{ZeroFrom}
-use Rattle.contents.proofs.FieldLaws.{is-filled, filled-byte, filled-zeros, not-longer}
-use Rattle.contents.proofs.names.is_filled.Statement.{statement}
-use Rattle.contents.proofs.names.is_filled.Tie as tie
+use Rattle.filled.specs.Fields.{ZeroFrom}
+use Rattle.filled.proofs.FieldLaws.{is-filled, filled-byte, filled-zeros, not-longer}
+use Rattle.filled.proofs.is_filled.Statement.{statement}
+use Rattle.filled.proofs.is_filled.Tie as tie
 
 abbrev Inv-loop : tie.InvT-loop
 Inv-loop field name i₀ i = (i ≤ length name) × ((k : ℕ) → k < i → getD field k 0 ≡ getD name k 0)

@@ -1,26 +1,14 @@
-// The names of the table of contents: fields of 16 bytes, in which a name is filled up with zero bytes.
+// Names in fields of 16 bytes, in which a name is filled up with zero bytes.
 ghost use mathlib.Core.Path.{_≡_};
-ghost use Prim.Native.Nat.{_+_, _*_, _≤_};
 ghost use lib.ListN.{length};
 ghost use Rattle.meaning.specs.Limits.{mostName};
 ghost use Rattle.meaning.specs.Names.{filled, Sooner};
-ghost use Rattle.meaning.specs.Day.{rowAt, nameField};
 ghost use Rattle.meaning.specs.Answers.{Decides};
-ghost use Rattle.contents.specs.Tests.{ZeroFrom, Named};
-use meaning::Index;
+ghost use Rattle.filled.specs.Fields.{ZeroFrom, Named};
 use meaning::Name;
 
-// The name of row r, as a part of the index.
-pub fn name_field(index: &[u8], r: usize) -> &[u8]
-    requires { ⌜ rowAt r + 24 ≤ length (now index) ⌝ }
-    ensures { λ f. ⌜ (now f ≡ nameField (now (index .entry)) r) × (length (now f) ≡ mostName) ⌝ }
-{
-    let at = Index::HEAD_BYTES + Index::ROW_BYTES * r;
-    &index[at..at + Name::MOST_BYTES]
-}
-
 // Whether the bytes of s from n on are zero.
-pub fn zero_from(s: &[u8], n: usize) -> bool
+fn zero_from(s: &[u8], n: usize) -> bool
     ensures { λ r. ⌜ Decides (ZeroFrom (now (s .entry)) n) r ⌝ }
 {
     let mut at = n;

@@ -1,10 +1,10 @@
--- `names::name_field` meets its contract: the 16 bytes from where row r begins are its name field.
+-- `rows::name_field` meets its contract: the 16 bytes from where row r begins are its name field.
 use mathlib.Core.Path.{ap, _∙_}
 use lib.ListN.{length}
-use Rattle.contents.proofs.FieldLaws.{field-part, field-length}
+use Rattle.contents.proofs.RowLaws.{field-part, field-length}
 use borrow.Author.Needs.{needs}
-use Rattle.contents.proofs.names.name_field.Statement.{statement}
-use Rattle.contents.proofs.names.name_field.Tie as tie
+use Rattle.contents.proofs.rows.name_field.Statement.{statement}
+use Rattle.contents.proofs.rows.name_field.Tie as tie
 
 mul-at : tie.Need-mul-at
 mul-at c = search needs

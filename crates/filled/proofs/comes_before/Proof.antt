@@ -1,11 +1,11 @@
--- `names::comes_before` meets its contract. The loop's invariant: the two fields are the same up to place k.
+-- `filled::comes_before` meets its contract. The loop's invariant: the two fields are the same up to place k.
 use borrow.Author.Needs.{needs}
 use Prim.Native.Nat.{_-_}
 use Rattle.meaning.specs.Limits.{mostName}
 use Rattle.meaning.specs.Answers.{holds, fails}
-use Rattle.contents.proofs.FieldLaws.{SameTo, same-begin, sooner-yes, sooner-no, same-on, sooner-equal}
-use Rattle.contents.proofs.names.comes_before.Statement.{statement}
-use Rattle.contents.proofs.names.comes_before.Tie as tie
+use Rattle.filled.proofs.FieldLaws.{SameTo, same-begin, sooner-yes, sooner-no, same-on, sooner-equal}
+use Rattle.filled.proofs.comes_before.Statement.{statement}
+use Rattle.filled.proofs.comes_before.Tie as tie
 
 abbrev Inv-loop : tie.InvT-loop
 Inv-loop x y k₀ k = SameTo x y k

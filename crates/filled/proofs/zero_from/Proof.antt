@@ -1,13 +1,13 @@
--- `names::zero_from` meets its contract. The loop's invariant: the bytes from n up to `at` are zero.
+-- `filled::zero_from` meets its contract. The loop's invariant: the bytes from n up to `at` are zero.
 use borrow.Author.Needs.{needs}
 use Prim.Native.Nat.{ℕ, _-_, _≤_, _<_}
 use native.Mathlib.Omega.{arith}
 use mathlib.Core.Path.{_≡_}
 use lib.ListN.{length, getD}
 use Rattle.meaning.specs.Answers.{holds, fails}
-use Rattle.contents.proofs.Bounds.{from-more}
-use Rattle.contents.proofs.names.zero_from.Statement.{statement}
-use Rattle.contents.proofs.names.zero_from.Tie as tie
+use Rattle.filled.proofs.Bounds.{from-more}
+use Rattle.filled.proofs.zero_from.Statement.{statement}
+use Rattle.filled.proofs.zero_from.Tie as tie
 
 abbrev Inv-loop : tie.InvT-loop
 Inv-loop s n at₀ at = (n ≤ at) × ((i : ℕ) → n ≤ i → i < at → getD s i 0 ≡ 0)

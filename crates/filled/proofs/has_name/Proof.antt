@@ -1,10 +1,10 @@
--- `names::has_name` meets its contract: a name in a field is the whole run at its beginning, with zeros behind it.
+-- `filled::has_name` meets its contract: a name in a field is the whole run at its beginning, with zeros behind it.
 use borrow.Author.Needs.{needs}
 use Rattle.meaning.specs.Answers.{fails}
 use Rattle.meaning.proofs.Decide.{decides-as}
-use Rattle.contents.proofs.FieldLaws.{named, unnamed, named-zeros}
-use Rattle.contents.proofs.names.has_name.Statement.{statement}
-use Rattle.contents.proofs.names.has_name.Tie as tie
+use Rattle.filled.proofs.FieldLaws.{named, unnamed, named-zeros}
+use Rattle.filled.proofs.has_name.Statement.{statement}
+use Rattle.filled.proofs.has_name.Tie as tie
 
 name-run-requires : tie.Need-name-run-requires
 name-run-requires c κs = search needs

@@ -6,25 +6,16 @@ use mathlib.Core.Path.{_≡_, refl, sym, ap, subst, _∙_}
 use mathlib.Core.Logic.{_≢_, ⊎-elim}
 use mathlib.Core.Bool.{false≢true}
 use mathlib.Core.List.{List, [], _∷_, _++_}
-use lib.ListN.{length, take, drop, getD, replicate, length-append, length-replicate, length-drop, List·getD-append, List·getD-eq-default}
+use lib.ListN.{length, take, getD, replicate, length-append, length-replicate, List·getD-append, List·getD-eq-default}
 use lib.Seq.{ext-getD, getD-append-add, getD-take, length-take-le}
 use Rattle.meaning.specs.Limits.{mostName}
 use Rattle.meaning.specs.Names.{initial, further, isName, Name, filled, Sooner}
-use Rattle.meaning.specs.Day.{rowAt, nameField}
 use Rattle.meaning.specs.Ends.{NoFurther}
-use Rattle.meaning.proofs.Laws.Bytes.{part-from, zero-at}
+use Rattle.meaning.proofs.Laws.Bytes.{zero-at}
 use Rattle.name.specs.Runs.{nameRun}
 use Rattle.name.proofs.RunLaws.{run-name, run-of-name, run-within}
-use Rattle.contents.specs.Tests.{ZeroFrom, Named}
-use Rattle.contents.proofs.Bounds.{below-or-not}
-
--- The bytes from where row r begins to 16 bytes further on are its name field.
-pub field-part : (b : List ℕ) (r : ℕ) → take (rowAt r + mostName - rowAt r) (drop (rowAt r) b) ≡ nameField b r
-field-part b r = part-from b (rowAt r) mostName
-
--- The name field of a row within the index has 16 bytes.
-pub field-length : (b : List ℕ) (r : ℕ) → rowAt r + 24 ≤ length b → length (nameField b r) ≡ mostName
-field-length b r l = length-take-le mostName (drop (rowAt r) b) (rw length-drop (omega arith))
+use Rattle.filled.specs.Fields.{ZeroFrom, Named}
+use Rattle.filled.proofs.Bounds.{below-or-not}
 
 -- A name that is filled up has 16 bytes.
 pub filled-length : (n : List ℕ) → length n ≤ mostName → length (filled n) ≡ mostName

@@ -1,0 +1,2 @@
+-- When a name stands in a field.
+pub mod Fields

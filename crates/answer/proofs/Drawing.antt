@@ -18,6 +18,7 @@ use Rattle.meaning.specs.Picks.{Asked, asked, stepAt, at}
 use Rattle.meaning.specs.Refusals.{Lawful}
 use Rattle.meaning.proofs.Decide.{or-not, lt-decides}
 use Rattle.meaning.specs.Fit.{Fit}
+use Rattle.meaning.proofs.Laws.Bytes.{zero-at}
 use Rattle.meaning.proofs.Laws.Day.{lawful-fit, list-of-row, list-small}
 use Rattle.meaning.proofs.Laws.Notation.{one-tree}
 use Rattle.meaning.proofs.Laws.Step.{hook-upward}
@@ -28,7 +29,6 @@ use Rattle.cursors.specs.Plan.{hookOf, planOf, Planned}
 use Rattle.answer.specs.Drawn.{Column, Drawn, Asks, Draws}
 use Rattle.cursors.proofs.SettleTurns.{hook-from, hook-nothing}
 use Rattle.cursors.proofs.Moves.{set-cases}
-use Rattle.cursors.proofs.Paging.{zeros}
 use Rattle.answer.proofs.Agreeing.{Agree, agree-back}
 
 -- A hook is found again from its number, if a step's number is below 255.
@@ -87,7 +87,7 @@ module _ (b : List ℕ) (p : Path) (k ret : ℕ) (hangs offsets counts : List �
 
 -- An array of zeros holds nothing yet.
 column-begin : (f : ℕ → ℕ) (xs : List ℕ) → xs ≡ replicate 32 0 → Column 0 f xs
-column-begin f xs e = record { long = rw e refl; are = λ j l. absurd (omega arith); blank = λ j l. rw e (zeros 32 j) }
+column-begin f xs e = record { long = rw e refl; are = λ j l. absurd (omega arith); blank = λ j l. rw e (zero-at 32 j) }
 
 -- One number more.
 column-on : (f : ℕ → ℕ) (s x : ℕ) (xs : List ℕ) → Column s f xs → s < 32 → x ≡ f s → Column (s + 1) f (set xs s x)

@@ -5,17 +5,15 @@ use native.Mathlib.Decide.{ℕ-discrete}
 use native.Mathlib.Omega.{arith}
 use borrow.Author.Count.{below-more}
 use mathlib.Core.Path.{_≡_, refl, sym, ap, subst}
-use mathlib.Core.Logic.{_⊎_, inl, inr, _≢_, ⊎-elim}
+use mathlib.Core.Logic.{_⊎_, inl, inr, _≢_}
 use mathlib.Core.List.{List}
 use lib.ListN.{length, set}
 use lib.Seq.{getD-set-same, getD-set-other}
-use Rattle.meaning.specs.declared.Label.{Label}
-use Rattle.meaning.specs.Labels.{Inside, Apart}
 use Rattle.meaning.specs.Notation.{Hook, nothing, from}
 use Rattle.meaning.specs.Picks.{Asked, Edge, Hung, Pick, at}
 use Rattle.meaning.proofs.Decide.{at-least}
 use Rattle.meaning.specs.Fit.{Fit}
-use Rattle.meaning.proofs.Laws.Pick.{earlier-starts}
+use Rattle.meaning.proofs.Laws.Pick.{earlier-starts, within-inside}
 use Rattle.cursors.specs.Cursors.{AtMost, LeastPick, NoPick, Touches, Unbroken}
 
 -- The edge of a pick at a step that hangs from u.
@@ -76,17 +74,6 @@ module _ (a : Asked) (fit : Fit a) (low : ℕ → ℕ) where
   pub none-past : (xs : List ℕ) (s : ℕ) → Settling a low xs s → s < a .steps → a .count s ≤ at xs s → NoPick a low
   none-past xs s w sk c q pick f = omega (arith, w .bound q pick f s sk, pick .within s sk)
 
-  -- Records are nested or apart, so that a record that starts within another lies inside it.
-  within-inside : (s i u j : ℕ) → i < a .count s → j < a .count u → a .label u j .start < a .label s i .start → a .label s i .start ≤ a .label u j .end → Edge (a .label s i) (a .label u j)
-  within-inside s i u j il jl after reached = go (fit .laminar s i u j il jl)
-    where
-      go : (a .label s i ≡ a .label u j) ⊎ Inside (a .label s i) (a .label u j) ⊎ Inside (a .label u j) (a .label s i) ⊎ Apart (a .label s i) (a .label u j) → Edge (a .label s i) (a .label u j)
-      go (inl e) = absurd (omega (arith, ap (λ (l : Label). l .start) e))
-      go (inr (inl h)) = h
-      go (inr (inr (inl h))) = absurd (omega (arith, h .after))
-      go (inr (inr (inr (inl h)))) = absurd (omega (arith, h, fit .ordered s i il))
-      go (inr (inr (inr (inr h)))) = absurd (omega (arith, h))
-
   -- The cursors go on to the next step: that of s is in range, and its edge is not broken.
   pub settle-on : (xs : List ℕ) (s : ℕ) → Settling a low xs s → at xs s < a .count s → ((u : ℕ) → a .hook s ≡ from u → Touches a (at xs) s u) → Settling a low xs (s + 1)
   settle-on xs s w c h = record {
@@ -146,7 +133,7 @@ module _ (a : Asked) (fit : Fit a) (low : ℕ → ℕ) where
       hung = λ s sk. hung-of a (at xs) s (a .hook s) (λ u e.
           let us : u < s = fit .upward s u sk e in
           let t = w .held .touches s sk u e in
-          within-inside s (at xs s) u (at xs u) (w .held .ranged s sk) (w .held .ranged u (omega arith)) (t .after) (t .reached));
+          within-inside a fit s (at xs s) u (at xs u) (w .held .ranged s sk) (w .held .ranged u (omega arith)) (t .after) (t .reached));
     };
     later = w .later;
     least = w .bound;

@@ -15,6 +15,7 @@ use Rattle.meaning.specs.declared.Page.{Page}
 use Rattle.meaning.specs.Picks.{Asked, Pick, Returned, Evidence, at}
 use Rattle.meaning.specs.Pages.{Records, Rows, none, row, Paged}
 use Rattle.meaning.specs.Fit.{Fit}
+use Rattle.meaning.proofs.Laws.Bytes.{zero-at}
 use Rattle.meaning.proofs.Laws.Pick.{same-pick}
 use Rattle.meaning.proofs.Laws.Record.{recordsOf, records-of}
 use Rattle.cursors.specs.Cursors.{AtMost, LeastPick, NoPick, Settled, found, ended, Unbroken}
@@ -180,12 +181,6 @@ pub writing-with : {a : Asked} {Row : ℕ → List ℕ → Type 0} {place room w
     → here′ ≡ here → n′ ≡ n → to′ ≡ to → Writing a Row place room width entry out (set ys s here) n to first → Writing a Row place room width entry out (set ys s here′) n′ to′ first
 writing-with ys s here here′ n n′ to to′ e₁ e₂ e₃ w = rw (e₁, e₂, e₃) w
 
--- Zeros are zero everywhere, and behind their end.
-pub zeros : (n j : ℕ) → getD {A = ℕ} (replicate n 0) j 0 ≡ 0
-zeros zero j = refl
-zeros (suc n) zero = refl
-zeros (suc n) (suc j) = zeros n j
-
 -- The loop begins with the cursors at the beginning of each list, but that of the returned step, which is at the page's place.
 pub page-begin : (a : Asked) → Fit a → (Row : ℕ → List ℕ → Type 0) (place room width : ℕ) (entry xs : List ℕ) → a .returned < 32 → xs ≡ set (replicate 32 0) (a .returned) place
     → Writing a Row place room width entry entry xs 0 0 0
@@ -196,7 +191,7 @@ page-begin a fit Row place room width entry xs r e =
       same = refl;
       n-le = omega arith;
       to-is = omega arith;
-      floor = λ q pick l. rw e (set-cases (λ j x. j < a .steps → x ≤ q j) (replicate 32 0) (a .returned) place r (λ _. omega (arith, l, here)) (λ j _ k. omega (arith, zeros 32 j)));
+      floor = λ q pick l. rw e (set-cases (λ j x. j < a .steps → x ≤ q j) (replicate 32 0) (a .returned) place r (λ _. omega (arith, l, here)) (λ j _ k. omega (arith, zero-at 32 j)));
       first-le = omega arith;
       held = record { ranged = λ j l. absurd (omega arith); touches = λ j l. absurd (omega arith) };
       is = [];

@@ -15,7 +15,7 @@ use Rattle.meaning.specs.Fit.{Fit}
 use Rattle.meaning.proofs.Laws.Day.{lawful-fit}
 use Rattle.cursors.specs.Plan.{planOf}
 use Rattle.answer.specs.Drawn.{Drawn}
-use Rattle.cursors.specs.RowParts.{PartOf}
+use Rattle.pages.specs.RowParts.{PartOf}
 use Rattle.answer.proofs.Agreeing.{Agree, agree-back, evidence-agree, paged-agree}
 use Rattle.answer.proofs.Drawing.{drawn-agrees, drawn-fit}
 

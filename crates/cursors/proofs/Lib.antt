@@ -1,4 +1,3 @@
--- Why the cursors are the evidence, and the rows a page.
+-- Why the cursors are the evidence.
 pub mod Moves
 pub mod SettleTurns
-pub mod Paging

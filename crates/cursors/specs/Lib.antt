@@ -2,4 +2,3 @@
 pub mod Plan
 pub mod Cursors
 pub mod Looking
-pub mod RowParts

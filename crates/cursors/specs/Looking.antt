@@ -3,8 +3,8 @@ use Prim.Native.Nat.{ℕ, _≤_, _<_}
 use mathlib.Core.List.{List}
 use Rattle.meaning.specs.Day.{labelAt}
 use Rattle.label.specs.Started.{Started}
-use Rattle.cursors.specs.declared.settling.Sight.{Sight}
-use Rattle.cursors.specs.declared.settling.Sight.the-variants.{Early, Late, Touching}
+use Rattle.cursors.specs.declared.Sight.{Sight}
+use Rattle.cursors.specs.declared.Sight.the-variants.{Early, Late, Touching}
 
 -- Record p of the n records of the body at `at` seen from record q of the body at `over`: it starts at or before q's start, and the first
 -- that starts later is r; or it starts after q's end; or it starts within q.

@@ -1,0 +1,2 @@
+-- Why the rows are a page.
+pub mod Paging

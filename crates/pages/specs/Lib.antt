@@ -1,0 +1,2 @@
+-- What a page promises of its rows.
+pub mod RowParts

@@ -8,7 +8,8 @@ use lib.ListN.{length, take, drop, getD}
 use Rattle.meaning.specs.declared.Label.{Label}
 use Rattle.meaning.specs.declared.Page.{Page}
 use Rattle.meaning.specs.Notation.{Hook, nothing, from}
-use Rattle.meaning.specs.Picks.{Asked, Edge, Hung, Pick, Returned, Evidence, at}
+use Rattle.meaning.specs.Bytes.{at}
+use Rattle.meaning.specs.Picks.{Asked, Edge, Hung, Pick, Returned, Evidence}
 use Rattle.meaning.specs.Pages.{Records, Rows, none, row, Paged}
 use Rattle.meaning.specs.Fit.{Fit}
 

@@ -14,7 +14,8 @@ use Rattle.meaning.specs.Limits.{mostSteps, mostLabels}
 use Rattle.meaning.specs.Labels.{Inside, Apart}
 use Rattle.meaning.specs.Day.{tags, offset, count, total, labelAt, listOf}
 use Rattle.meaning.specs.Notation.{Path, Hook, nothing, from, steps, returnedStep}
-use Rattle.meaning.specs.Picks.{Asked, asked, stepAt, at}
+use Rattle.meaning.specs.Bytes.{at}
+use Rattle.meaning.specs.Picks.{Asked, asked, stepAt}
 use Rattle.meaning.specs.Refusals.{Lawful}
 use Rattle.meaning.proofs.Decide.{or-not, lt-decides}
 use Rattle.meaning.specs.Fit.{Fit}

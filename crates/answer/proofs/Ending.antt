@@ -8,7 +8,8 @@ use lib.Seq.{drop-cons, take-all}
 use Rattle.meaning.specs.declared.Page.{Page}
 use Rattle.meaning.specs.Limits.{mostSteps}
 use Rattle.meaning.specs.Notation.{Path, steps}
-use Rattle.meaning.specs.Picks.{Asked, Evidence, asked, at}
+use Rattle.meaning.specs.Bytes.{at}
+use Rattle.meaning.specs.Picks.{Asked, Evidence, asked}
 use Rattle.meaning.specs.Pages.{Paged, Position, answerRoom, evidenceRoom}
 use Rattle.meaning.specs.Refusals.{Lawful}
 use Rattle.meaning.specs.Fit.{Fit}

@@ -6,7 +6,8 @@ use lib.ListN.{length}
 use Rattle.meaning.specs.Limits.{mostSteps}
 use Rattle.meaning.specs.Day.{listOf}
 use Rattle.meaning.specs.Notation.{Path, Follows, steps, returnedStep}
-use Rattle.meaning.specs.Picks.{stepAt, at}
+use Rattle.meaning.specs.Bytes.{at}
+use Rattle.meaning.specs.Picks.{stepAt}
 use Rattle.meaning.specs.declared.Question.{Question}
 use Rattle.question.specs.Stored.{hookNumber, questionOf}
 

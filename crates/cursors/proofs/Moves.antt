@@ -10,7 +10,8 @@ use mathlib.Core.List.{List}
 use lib.ListN.{length, set}
 use lib.Seq.{getD-set-same, getD-set-other}
 use Rattle.meaning.specs.Notation.{Hook, nothing, from}
-use Rattle.meaning.specs.Picks.{Asked, Edge, Hung, Pick, at}
+use Rattle.meaning.specs.Bytes.{at}
+use Rattle.meaning.specs.Picks.{Asked, Edge, Hung, Pick}
 use Rattle.meaning.proofs.Decide.{at-least}
 use Rattle.meaning.specs.Fit.{Fit}
 use Rattle.meaning.proofs.Laws.Pick.{earlier-starts, within-inside}

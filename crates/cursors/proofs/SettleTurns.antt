@@ -10,7 +10,8 @@ use lib.Dec.{eqb}
 use lib.ListN.{length, set, length-set}
 use Rattle.meaning.specs.Day.{labelAt}
 use Rattle.meaning.specs.Notation.{Hook, nothing, from}
-use Rattle.meaning.specs.Picks.{Asked, at}
+use Rattle.meaning.specs.Bytes.{at}
+use Rattle.meaning.specs.Picks.{Asked}
 use Rattle.meaning.proofs.Decide.{at-least}
 use Rattle.label.specs.Started.{Ascends, Started}
 use Rattle.cursors.specs.Plan.{hookOf, planOf, Planned}

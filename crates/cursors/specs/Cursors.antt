@@ -5,7 +5,8 @@ use mathlib.Core.Bool.{Bool, true, false}
 use mathlib.Core.List.{List}
 use lib.ListN.{length}
 use Rattle.meaning.specs.Notation.{from}
-use Rattle.meaning.specs.Picks.{Asked, Pick, at}
+use Rattle.meaning.specs.Bytes.{at}
+use Rattle.meaning.specs.Picks.{Asked, Pick}
 
 -- p is at no step past q.
 abbrev pub AtMost : Asked → (ℕ → ℕ) → (ℕ → ℕ) → Type 0

@@ -7,7 +7,8 @@ use lib.ListN.{length}
 use Rattle.meaning.specs.Limits.{mostSteps, mostLabels}
 use Rattle.meaning.specs.Day.{labelAt}
 use Rattle.meaning.specs.Notation.{Hook, nothing, from}
-use Rattle.meaning.specs.Picks.{Asked, at}
+use Rattle.meaning.specs.Bytes.{at}
+use Rattle.meaning.specs.Picks.{Asked}
 use Rattle.meaning.specs.Fit.{Fit}
 
 -- What a step hangs from, by its number: 255 is nothing.

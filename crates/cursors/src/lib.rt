@@ -4,7 +4,7 @@ ghost use mathlib.Core.Path.{_≡_};
 ghost use Prim.Native.Nat.{ℕ, _+_, _*_, _<_, _≤_};
 ghost use lib.ListN.{length};
 ghost use Rattle.meaning.specs.Limits.{mostSteps};
-ghost use Rattle.meaning.specs.Picks.{at};
+ghost use Rattle.meaning.specs.Bytes.{at};
 ghost use Rattle.label.specs.Started.{Ascends};
 ghost use Rattle.cursors.specs.Plan.{planOf, Planned};
 ghost use Rattle.cursors.specs.Cursors.{Unbroken, Settled};

@@ -7,13 +7,13 @@ use mathlib.Core.Path.{_≡_, ap, _∙_}
 use mathlib.Core.List.{List}
 use lib.ListN.{take, drop}
 use lib.Seq.{getD-take, getD-drop}
-use Rattle.meaning.specs.Bytes.{byteAt, u32At}
+use Rattle.meaning.specs.Bytes.{at, u32At}
 use Rattle.meaning.specs.Day.{labelAt}
 use Rattle.label.specs.Started.{Started}
 
 -- A byte of the part, whichever way the sum of its place is written.
-byte-part : (b : List ℕ) (o n i j : ℕ) → i < n → o + i ≡ j → byteAt (take n (drop o b)) i ≡ byteAt b j
-byte-part b o n i j h e = getD-take n (drop o b) i 0 h ∙ getD-drop o b i 0 ∙ ap (byteAt b) e
+byte-part : (b : List ℕ) (o n i j : ℕ) → i < n → o + i ≡ j → at (take n (drop o b)) i ≡ at b j
+byte-part b o n i j h e = getD-take n (drop o b) i 0 h ∙ getD-drop o b i 0 ∙ ap (at b) e
 
 -- A number in a part of the bytes is the number in the whole.
 pub u32-part : (b : List ℕ) (o n i : ℕ) → i + 4 ≤ n → u32At (take n (drop o b)) i ≡ u32At b (o + i)

@@ -5,7 +5,7 @@ ghost use mathlib.Core.List.{[], _∷_};
 ghost use lib.ListN.{length};
 ghost use Rattle.meaning.specs.Limits.{mostSteps};
 ghost use Rattle.meaning.specs.Day.{labelAt};
-ghost use Rattle.meaning.specs.Picks.{at};
+ghost use Rattle.meaning.specs.Bytes.{at};
 ghost use Rattle.meaning.specs.Printing.{digits};
 ghost use Rattle.lines.specs.Adding.{mostDigits, mostRecord, Adds, Places, AddsNumber, AddsRecord, Written};
 use meaning::Label;

@@ -7,6 +7,7 @@ use Rattle.meaning.specs.declared.Label.{Label}
 use Rattle.meaning.specs.Labels.{Inside}
 use Rattle.meaning.specs.Day.{listOf, labelAt}
 use Rattle.meaning.specs.Notation.{Path, Hook, nothing, from, Step, steps, stepList, returnedStep}
+use Rattle.meaning.specs.Bytes.{at}
 
 -- A question put to a day: its number of steps, its returned step, what each step hangs from, and the records of each step's tag, of
 -- which step s has `count s`, record i of them with the label `label s i`.
@@ -49,14 +50,11 @@ pub record Pick (a : Asked) (p : ℕ → ℕ) : Type 0 where
 abbrev pub Returned : Asked → ℕ → Type 0
 Returned a i = (p : ℕ → ℕ) × Pick a p × (p (a .returned) ≡ i)
 
--- The row of numbers as a pick: number s of it is the list position of step s's record.
-abbrev pub at : List ℕ → ℕ → ℕ
-at row s = getD row s 0
-
 -- The row is the evidence for record i: one record per step, a pick that has record i at the returned step and that is, at every step
 -- at once, no later than any pick that has it there. In one list the earlier record has the lower position.
 pub record Evidence (a : Asked) (i : ℕ) (row : List ℕ) : Type 0 where
   pub long : length row ≡ a .steps
+  -- Number s of the row is the list position of step s's record.
   pub pick : Pick a (at row)
   pub here : at row (a .returned) ≡ i
   pub earliest : (q : ℕ → ℕ) → Pick a q → q (a .returned) ≡ i → (s : ℕ) → s < a .steps → at row s ≤ q s

@@ -8,13 +8,14 @@ use mathlib.Core.List.{List}
 use lib.ListN.{length, set, length-set}
 use lib.Seq.{getD-set-same, getD-set-other}
 use Rattle.meaning.specs.Limits.{mostTags}
-use Rattle.order.specs.Tournament.{nth, nodes, Lesser, Tree, SameLeaves}
+use Rattle.meaning.specs.Bytes.{at}
+use Rattle.order.specs.Tournament.{nodes, Lesser, Tree, SameLeaves}
 
 -- The loop of `play`: the nodes from i on hold the lesser of their two, and the numbers that play are those of xs.
 pub record Built (m : ℕ) (xs : List ℕ) (i : ℕ) (ys : List ℕ) : Type 0 where
   pub i-le : i ≤ m
   pub long : length ys ≡ nodes
-  pub node : (k : ℕ) → i ≤ k → 1 ≤ k → k < m → Lesser (nth ys k) (nth ys (2 * k)) (nth ys (2 * k + 1))
+  pub node : (k : ℕ) → i ≤ k → 1 ≤ k → k < m → Lesser (at ys k) (at ys (2 * k)) (at ys (2 * k + 1))
   pub leaves : SameLeaves m xs ys
 
 -- No node is played yet.
@@ -22,7 +23,7 @@ pub built-begin : (m : ℕ) (xs : List ℕ) → length xs ≡ nodes → Built m 
 built-begin m xs long = record { i-le = omega arith; long = long; node = λ k a p l. absurd (omega arith); leaves = λ j l. refl }
 
 -- Node i is played.
-pub built-on : (m : ℕ) (xs : List ℕ) (i v : ℕ) (ys : List ℕ) → Built m xs (i + 1) ys → 1 ≤ i → m ≤ mostTags → Lesser v (nth ys (2 * i)) (nth ys (2 * i + 1)) → Built m xs i (set ys i v)
+pub built-on : (m : ℕ) (xs : List ℕ) (i v : ℕ) (ys : List ℕ) → Built m xs (i + 1) ys → 1 ≤ i → m ≤ mostTags → Lesser v (at ys (2 * i)) (at ys (2 * i + 1)) → Built m xs i (set ys i v)
 built-on m xs i v ys w p few won = record {
   i-le = omega (arith, w .i-le);
   long = simp length-set (w .long);
@@ -33,7 +34,7 @@ built-on m xs i v ys w p few won = record {
     room : i < length ys
     room = omega (arith, w .i-le, w .long)
 
-    go : (k : ℕ) → i ≤ k → 1 ≤ k → k < m → Dec (k ≡ i) → Lesser (nth (set ys i v) k) (nth (set ys i v) (2 * k)) (nth (set ys i v) (2 * k + 1))
+    go : (k : ℕ) → i ≤ k → 1 ≤ k → k < m → Dec (k ≡ i) → Lesser (at (set ys i v) k) (at (set ys i v) (2 * k)) (at (set ys i v) (2 * k + 1))
     go k a q l (yes e) = rw (e, getD-set-same ys i v 0 room, getD-set-other ys i (2 * i) v 0 (λ f. omega arith), getD-set-other ys i (2 * i + 1) v 0 (λ f. omega arith)) won
     go k a q l (no d) =
         rw (getD-set-other ys i k v 0 d, getD-set-other ys i (2 * k) v 0 (λ f. omega arith), getD-set-other ys i (2 * k + 1) v 0 (λ f. omega arith)) (w .node k (above a d) q l)

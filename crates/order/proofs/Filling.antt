@@ -13,7 +13,8 @@ use Rattle.meaning.specs.Bytes.{u32At}
 use Rattle.meaning.specs.Labels.{Lists}
 use Rattle.meaning.specs.Day.{tags, offset, count, labelAt, listsOf}
 use Rattle.contents.specs.Parts.{Placed}
-use Rattle.order.specs.Tournament.{nth, numbers, nodes, past, Tree, SameLeaves, Root, Key, Keys}
+use Rattle.meaning.specs.Bytes.{at}
+use Rattle.order.specs.Tournament.{numbers, nodes, past, Tree, SameLeaves, Root, Key, Keys}
 use Rattle.order.specs.Walk.{Ascend}
 use Rattle.order.specs.Standing.{positionAt, cursor, AtLabel, Cursors, Lent, Filled, Standing, Begun}
 use Rattle.order.proofs.WalkLaws.{none-seen}
@@ -41,8 +42,8 @@ at-first b r place e = (record { begins = omega arith; within = omega arith }, o
 pub record Filling (b : List ℕ) (m r : ℕ) (tree places : List ℕ) : Type 0 where
   pub tree-long : length tree ≡ nodes
   pub places-long : length places ≡ mostTags
-  pub place : (j : ℕ) → j < r → nth places j ≡ offset b j
-  pub key : (j : ℕ) → j < r → Key (listsOf b) j 0 (nth tree (m + j))
+  pub place : (j : ℕ) → j < r → at places j ≡ offset b j
+  pub key : (j : ℕ) → j < r → Key (listsOf b) j 0 (at tree (m + j))
 
 -- No list has.
 pub filling-begin : (b : List ℕ) (m : ℕ) (tree places : List ℕ) → Lent b m tree places → Filling b m 0 tree places
@@ -57,11 +58,11 @@ filling-on b m r tree places w l few place key e k = record {
   key = λ j h. keyed j (eq-or-lt-of-le {n = j} {m = r} (omega arith));
 }
   where
-    there : (j : ℕ) → (j ≡ r) ⊎ (j < r) → nth (set places r place) j ≡ offset b j
+    there : (j : ℕ) → (j ≡ r) ⊎ (j < r) → at (set places r place) j ≡ offset b j
     there j (inl f) = rw f (getD-set-same places r place 0 (omega (arith, w .places-long)) ∙ e)
     there j (inr h) = getD-set-other places r j place 0 (ne-of-lt h) ∙ w .place j h
 
-    keyed : (j : ℕ) → (j ≡ r) ⊎ (j < r) → Key (listsOf b) j 0 (nth (set tree (m + r) key) (m + j))
+    keyed : (j : ℕ) → (j ≡ r) ⊎ (j < r) → Key (listsOf b) j 0 (at (set tree (m + r) key) (m + j))
     keyed j (inl f) = rw (f, getD-set-same tree (m + r) key 0 (omega (arith, w .tree-long))) (subst (λ (p : ℕ). Key (listsOf b) r p key) (at-first b r place e .1) k)
     keyed j (inr h) = rw (getD-set-other tree (m + r) (m + j) key 0 (λ f. omega arith)) (w .key j h)
 
@@ -77,18 +78,18 @@ begun b m tree₀ places₀ tree places tree′ least lent filled played leaves 
   nothing = zero;
 }
   where
-    there : (r : ℕ) → r < tags b → nth places r ≡ offset b r
+    there : (r : ℕ) → r < tags b → at places r ≡ offset b r
     there r l = filled .place r (omega (arith, lent .m-is))
 
     zero : (r : ℕ) → r < tags b → cursor b places r ≡ 0
-    zero r l = at-first b r (nth places r) (there r l) .1
+    zero r l = at-first b r (at places r) (there r l) .1
 
     cursors : Cursors b places
-    cursors = record { long = filled .places-long; each = λ r l. at-first b r (nth places r) (there r l) .0 }
+    cursors = record { long = filled .places-long; each = λ r l. at-first b r (at places r) (there r l) .0 }
 
     keys : Keys (listsOf b) (cursor b places) tree′
     keys = record {
       tree = subst (λ (n : ℕ). Tree n tree′) (lent .m-is) played;
-      key = λ r l. subst (λ (n : ℕ). Key (listsOf b) r (cursor b places r) (nth tree′ (n + r))) (lent .m-is)
+      key = λ r l. subst (λ (n : ℕ). Key (listsOf b) r (cursor b places r) (at tree′ (n + r))) (lent .m-is)
           (rw (zero r l, leaves r (omega (arith, lent .m-is))) (filled .key r (omega (arith, lent .m-is))));
     }

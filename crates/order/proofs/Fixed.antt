@@ -8,7 +8,8 @@ use mathlib.Core.List.{List}
 use Rattle.meaning.specs.Limits.{mostTags}
 use Rattle.meaning.specs.Labels.{Lists, Place}
 use Rattle.meaning.specs.Day.{tags, listsOf}
-use Rattle.order.specs.Tournament.{nth, past}
+use Rattle.meaning.specs.Bytes.{at}
+use Rattle.order.specs.Tournament.{past}
 use Rattle.order.specs.Walk.{startOf, next, Waits, Precedes, Comes}
 use Rattle.order.specs.Standing.{cursor, Cursors, Names, Begun, HandsOut}
 use Rattle.order.proofs.WalkLaws.{comes-one, done-none}
@@ -46,12 +47,12 @@ names-fixed t pos pos′ m n agree a b = go (decLe past m) (decLe past n)
 
 module _ (b places places′ : List ℕ) (w : Cursors b places) (w′ : Cursors b places′) where
   -- Lists whose cursors are the same have the same places.
-  places-as : Agree (listsOf b) (cursor b places) (cursor b places′) → (r : ℕ) → r < tags b → nth places r ≡ nth places′ r
+  places-as : Agree (listsOf b) (cursor b places) (cursor b places′) → (r : ℕ) → r < tags b → at places r ≡ at places′ r
   places-as agree r l = omega (arith, agree r l, w .each r l .begins, w′ .each r l .begins)
 
 -- A walk that begins is one, in the place of every list and in its number.
 pub begun-fixed : (b : List ℕ) (m : ℕ) (tree places tree′ places′ : List ℕ) (least least′ : ℕ) → Begun b m tree places least → Begun b m tree′ places′ least′
-    → ((r : ℕ) → r < tags b → nth places r ≡ nth places′ r) × (least ≡ least′)
+    → ((r : ℕ) → r < tags b → at places r ≡ at places′ r) × (least ≡ least′)
 begun-fixed b m tree places tree′ places′ least least′ h h′ =
     let agree : Agree (listsOf b) (cursor b places) (cursor b places′) = λ r l. h .nothing r l ∙ sym (h′ .nothing r l) in
     (places-as b places places′ (h .standing .cursors) (h′ .standing .cursors) agree, names-fixed (listsOf b) (cursor b places) (cursor b places′) least least′ agree (h .names) (h′ .names))
@@ -59,7 +60,7 @@ begun-fixed b m tree places tree′ places′ least least′ h h′ =
 -- So is a walk that has handed out a label.
 pub hands-out-fixed : (b : List ℕ) (m : ℕ) (places : List ℕ) (list : ℕ) (tree₁ places₁ tree₂ places₂ : List ℕ) (least₁ least₂ : ℕ)
     → HandsOut b m places list tree₁ places₁ least₁ → HandsOut b m places list tree₂ places₂ least₂
-    → ((r : ℕ) → r < tags b → nth places₁ r ≡ nth places₂ r) × (least₁ ≡ least₂)
+    → ((r : ℕ) → r < tags b → at places₁ r ≡ at places₂ r) × (least₁ ≡ least₂)
 hands-out-fixed b m places list tree₁ places₁ tree₂ places₂ least₁ least₂ h h′ =
     (places-as b places₁ places₂ (h .standing .cursors) (h′ .standing .cursors) agree, names-fixed (listsOf b) (cursor b places₁) (cursor b places₂) least₁ least₂ agree (h .names) (h′ .names))
   where

@@ -10,7 +10,8 @@ use Rattle.meaning.specs.Limits.{mostTags}
 use Rattle.meaning.specs.Labels.{Lists}
 use Rattle.order.specs.Walk.{Ascend, Waits, startOf, next, Comes, Done}
 use Rattle.order.specs.Standing.{Names}
-use Rattle.order.specs.Tournament.{nth, past, Key, Keys, Root}
+use Rattle.meaning.specs.Bytes.{at}
+use Rattle.order.specs.Tournament.{past, Key, Keys, Root}
 use Rattle.order.proofs.WalkLaws.{precedes-by, first-of-all}
 use Rattle.order.proofs.Playing.{root-least, root-leaf}
 
@@ -25,7 +26,7 @@ module _ (t : Lists) (pos : ℕ → ℕ) (xs : List ℕ) (key : ℕ) (ascend : A
   named : key < past → (j : ℕ) × Named t pos key j
   named h = ⊎-elim (λ e. absurd (omega (arith, root .none (sym e)))) (λ some. go (root .some some) (root-leaf (t .many) xs (keys .tree) some)) (eq-or-lt-of-le {n = 0} {m = t .many} (omega arith))
     where
-      go : key ≡ nth xs 1 → (j : ℕ) × (j < t .many) × (nth xs (t .many + j) ≡ nth xs 1) → (j : ℕ) × Named t pos key j
+      go : key ≡ at xs 1 → (j : ℕ) × (j < t .many) × (at xs (t .many + j) ≡ at xs 1) → (j : ℕ) × Named t pos key j
       go top (j, l, e) = here (decLe (t .count j) (pos j))
         where
           here : Dec (t .count j ≤ pos j) → (j : ℕ) × Named t pos key j
@@ -55,7 +56,7 @@ module _ (t : Lists) (pos : ℕ → ℕ) (xs : List ℕ) (key : ℕ) (ascend : A
   at-most-past : key ≤ past
   at-most-past = ⊎-elim (λ e. omega (arith, root .none (sym e))) (λ some. go (root .some some) (root-leaf (t .many) xs (keys .tree) some)) (eq-or-lt-of-le {n = 0} {m = t .many} (omega arith))
     where
-      go : key ≡ nth xs 1 → (j : ℕ) × (j < t .many) × (nth xs (t .many + j) ≡ nth xs 1) → key ≤ past
+      go : key ≡ at xs 1 → (j : ℕ) × (j < t .many) × (at xs (t .many + j) ≡ at xs 1) → key ≤ past
       go top (j, l, e) = here (decLe (t .count j) (pos j))
         where
           here : Dec (t .count j ≤ pos j) → key ≤ past

@@ -9,7 +9,8 @@ use lib.ListN.{length, set, length-set}
 use lib.Seq.{getD-set-same, getD-set-other}
 use Rattle.meaning.specs.Limits.{mostTags}
 use Rattle.meaning.specs.Day.{tags, offset, count, listsOf}
-use Rattle.order.specs.Tournament.{nth, Tree, Root, Put, Key, Keys}
+use Rattle.meaning.specs.Bytes.{at}
+use Rattle.order.specs.Tournament.{Tree, Root, Put, Key, Keys}
 use Rattle.order.specs.Walk.{Comes, Moved}
 use Rattle.order.specs.Standing.{positionAt, cursor, AtLabel, Cursors, Standing, HandsOut}
 use Rattle.order.proofs.WalkLaws.{sorted-on}
@@ -25,36 +26,36 @@ module _ (b : List ℕ) (m : ℕ) (tree places : List ℕ) (list : ℕ) (w : Sta
   list-lt = comes .waits .holds .list-lt
 
   -- Its place is a label's.
-  pub here : AtLabel b list (nth places list)
+  pub here : AtLabel b list (at places list)
   here = w .cursors .each list list-lt
 
   -- It has a label there.
-  pub room : positionAt b list (nth places list) < count b list
+  pub room : positionAt b list (at places list) < count b list
   room = comes .waits .holds .at-lt
 
   -- The place moves on.
   abbrev places′ : List ℕ
-  places′ = set places list (nth places list + 8)
+  places′ = set places list (at places list + 8)
 
   -- The walk has handed that label out.
-  pub hands-out : (key : ℕ) → Key (listsOf b) list (positionAt b list (nth places list + 8)) key → (tree′ : List ℕ) → Put m list key tree tree′ → (least : ℕ) → least ≡ nth tree′ 1 → HandsOut b m places list tree′ places′ least
+  pub hands-out : (key : ℕ) → Key (listsOf b) list (positionAt b list (at places list + 8)) key → (tree′ : List ℕ) → Put m list key tree tree′ → (least : ℕ) → least ≡ at tree′ 1 → HandsOut b m places list tree′ places′ least
   hands-out key new tree′ put least is = record {
     standing = record { placed = w .placed; ascend = w .ascend; m-is = w .m-is; cursors = cursors; sorted = sorted-on (listsOf b) (cursor b places) (cursor b places′) list moved comes (w .sorted); keys = keys };
     names = names-of (listsOf b) (cursor b places′) tree′ least (w .ascend) (w .placed .few) keys (record { some = λ _. is; none = λ z. absurd (omega (arith, list-lt)) });
     moved = moved;
   }
     where
-      next : AtLabel b list (nth places list + 8) × (positionAt b list (nth places list + 8) ≡ suc (positionAt b list (nth places list)))
-      next = at-next b list (nth places list) here room
+      next : AtLabel b list (at places list + 8) × (positionAt b list (at places list + 8) ≡ suc (positionAt b list (at places list)))
+      next = at-next b list (at places list) here room
 
       long : list < length places
       long = omega (arith, w .cursors .long, w .placed .few, list-lt)
 
-      same : nth places′ list ≡ nth places list + 8
-      same = getD-set-same places list (nth places list + 8) 0 long
+      same : at places′ list ≡ at places list + 8
+      same = getD-set-same places list (at places list + 8) 0 long
 
-      other : (r : ℕ) → r ≢ list → nth places′ r ≡ nth places r
-      other r d = getD-set-other places list r (nth places list + 8) 0 d
+      other : (r : ℕ) → r ≢ list → at places′ r ≡ at places r
+      other r d = getD-set-other places list r (at places list + 8) 0 d
 
       moved : Moved (cursor b places) (cursor b places′) list
       moved = record { here = ap (positionAt b list) same ∙ next .1; other = λ r d. ap (positionAt b r) (other r d) }
@@ -62,7 +63,7 @@ module _ (b : List ℕ) (m : ℕ) (tree places : List ℕ) (list : ℕ) (w : Sta
       cursors : Cursors b places′
       cursors = record { long = simp length-set (w .cursors .long); each = λ r l. go r l (ℕ-discrete r list) }
         where
-          go : (r : ℕ) → r < tags b → Dec (r ≡ list) → AtLabel b r (nth places′ r)
+          go : (r : ℕ) → r < tags b → Dec (r ≡ list) → AtLabel b r (at places′ r)
           go r l (yes e) = rw (e, same) (next .0)
           go r l (no d) = rw (other r d) (w .cursors .each r l)
 
@@ -72,6 +73,6 @@ module _ (b : List ℕ) (m : ℕ) (tree places : List ℕ) (list : ℕ) (w : Sta
       keys : Keys (listsOf b) (cursor b places′) tree′
       keys = record { tree = put′ .tree; key = λ r l. go r l (ℕ-discrete r list) }
         where
-          go : (r : ℕ) → r < tags b → Dec (r ≡ list) → Key (listsOf b) r (cursor b places′ r) (nth tree′ (tags b + r))
+          go : (r : ℕ) → r < tags b → Dec (r ≡ list) → Key (listsOf b) r (cursor b places′ r) (at tree′ (tags b + r))
           go r l (yes e) = rw (e, same, put′ .here) new
           go r l (no d) = rw (other r d, put′ .other r l d) (w .keys .key r l)

@@ -8,7 +8,8 @@ use Rattle.meaning.specs.Labels.{Lists}
 use Rattle.meaning.specs.Day.{tags, offset, count, listsOf}
 use Rattle.contents.specs.Parts.{Placed}
 use Rattle.order.specs.Walk.{Ascend, Sorted, Comes, Moved, Done, startOf, next}
-use Rattle.order.specs.Tournament.{nth, nodes, past, Key, Keys}
+use Rattle.meaning.specs.Bytes.{at}
+use Rattle.order.specs.Tournament.{nodes, past, Key, Keys}
 
 -- The position in list r of the label that begins at a place of the index.
 abbrev pub positionAt : List ℕ → ℕ → ℕ → ℕ
@@ -16,7 +17,7 @@ positionAt b r place = (place - offset b r) / 8
 
 -- The lists' cursors, by the places of the index at which their next labels begin.
 abbrev pub cursor : List ℕ → List ℕ → ℕ → ℕ
-cursor b places r = positionAt b r (nth places r)
+cursor b places r = positionAt b r (at places r)
 
 -- A place is one at which a label of list r begins, or the place behind its last.
 pub record AtLabel (b : List ℕ) (r place : ℕ) : Type 0 where
@@ -26,7 +27,7 @@ pub record AtLabel (b : List ℕ) (r place : ℕ) : Type 0 where
 -- Every list has such a place.
 pub record Cursors (b places : List ℕ) : Type 0 where
   pub long : length places ≡ mostTags
-  pub each : (r : ℕ) → r < tags b → AtLabel b r (nth places r)
+  pub each : (r : ℕ) → r < tags b → AtLabel b r (at places r)
 
 -- The walk's number names the list and the start of what comes next, or is one past all such numbers and says that all were handed out.
 pub record Names (t : Lists) (pos : ℕ → ℕ) (least : ℕ) : Type 0 where
@@ -47,8 +48,8 @@ pub record Lent (b : List ℕ) (m : ℕ) (tree places : List ℕ) : Type 0 where
 pub record Filled (b : List ℕ) (m : ℕ) (tree places : List ℕ) : Type 0 where
   pub tree-long : length tree ≡ nodes
   pub places-long : length places ≡ mostTags
-  pub place : (r : ℕ) → r < m → nth places r ≡ offset b r
-  pub key : (r : ℕ) → r < m → Key (listsOf b) r 0 (nth tree (m + r))
+  pub place : (r : ℕ) → r < m → at places r ≡ offset b r
+  pub key : (r : ℕ) → r < m → Key (listsOf b) r 0 (at tree (m + r))
 
 -- A walk stands at its cursors: what was handed out comes before what is left, and the tournament has the lists' keys.
 pub record Standing (b : List ℕ) (m : ℕ) (tree places : List ℕ) : Type 0 where

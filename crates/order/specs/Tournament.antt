@@ -4,12 +4,9 @@ use mathlib.Core.Path.{_≡_}
 use mathlib.Core.Logic.{_⊎_, _≢_}
 use mathlib.Core.List.{List}
 use lib.ListN.{length, getD}
+use Rattle.meaning.specs.Bytes.{at}
 use Rattle.meaning.specs.Limits.{mostTags}
 use Rattle.meaning.specs.Labels.{Lists}
-
--- The number at a place; 0 past the end, where no promise looks.
-abbrev pub nth : List ℕ → ℕ → ℕ
-nth xs i = getD xs i 0
 
 -- v is the lesser of a and b.
 pub record Lesser (v a b : ℕ) : Type 0 where
@@ -24,17 +21,17 @@ nodes = 2 * mostTags
 -- Every node holds the lesser of its two.
 pub record Tree (m : ℕ) (xs : List ℕ) : Type 0 where
   pub long : length xs ≡ nodes
-  pub node : (i : ℕ) → 1 ≤ i → i < m → Lesser (nth xs i) (nth xs (2 * i)) (nth xs (2 * i + 1))
+  pub node : (i : ℕ) → 1 ≤ i → i < m → Lesser (at xs i) (at xs (2 * i)) (at xs (2 * i + 1))
 
 -- The m numbers that play are those of another tournament.
 abbrev pub SameLeaves : ℕ → List ℕ → List ℕ → Type 0
-SameLeaves m xs ys = (j : ℕ) → j < m → nth ys (m + j) ≡ nth xs (m + j)
+SameLeaves m xs ys = (j : ℕ) → j < m → at ys (m + j) ≡ at xs (m + j)
 
 -- Number `leaf` is now `key`, and the others stay.
 pub record Put (m leaf key : ℕ) (xs ys : List ℕ) : Type 0 where
   pub tree : Tree m ys
-  pub here : nth ys (m + leaf) ≡ key
-  pub other : (j : ℕ) → j < m → j ≢ leaf → nth ys (m + j) ≡ nth xs (m + j)
+  pub here : at ys (m + leaf) ≡ key
+  pub other : (j : ℕ) → j < m → j ≢ leaf → at ys (m + j) ≡ at xs (m + j)
 
 -- How many 32-bit numbers there are.
 abbrev pub numbers : ℕ
@@ -46,7 +43,7 @@ past = numbers * mostTags
 
 -- The least of the m numbers: the root's, and where there is none, one past all keys.
 pub record Root (m : ℕ) (xs : List ℕ) (v : ℕ) : Type 0 where
-  pub some : 0 < m → v ≡ nth xs 1
+  pub some : 0 < m → v ≡ at xs 1
   pub none : m ≡ 0 → v ≡ past
 
 -- The key of list r at position p: its start there and then its number, or one past all such keys when it has no label there.
@@ -58,4 +55,4 @@ pub record Key (t : Lists) (r p v : ℕ) : Type 0 where
 -- A tournament of the lists' keys at their cursors.
 pub record Keys (t : Lists) (pos : ℕ → ℕ) (xs : List ℕ) : Type 0 where
   pub tree : Tree (t .many) xs
-  pub key : (r : ℕ) → r < t .many → Key t r (pos r) (nth xs (t .many + r))
+  pub key : (r : ℕ) → r < t .many → Key t r (pos r) (at xs (t .many + r))

@@ -4,7 +4,8 @@ ghost use mathlib.Core.Path.{_≡_};
 ghost use Prim.Native.Nat.{_+_, _*_, _/_, _%_, _<_, _≤_};
 ghost use lib.ListN.{length};
 ghost use Rattle.meaning.specs.Limits.{mostTags};
-ghost use Rattle.order.specs.Tournament.{nth, Lesser, Tree, Put, SameLeaves, Root, nodes, past};
+ghost use Rattle.meaning.specs.Bytes.{at};
+ghost use Rattle.order.specs.Tournament.{Lesser, Tree, Put, SameLeaves, Root, nodes, past};
 use meaning::Index;
 
 // How many places a tournament has.
@@ -39,7 +40,7 @@ fn beside(i: usize) -> usize
 // Number `leaf` becomes `key`, the nodes above it are played again, and the answer is the least of all.
 pub fn put(tree: &mut [u64; NODES], m: usize, leaf: usize, key: u64) -> u64
     requires { ⌜ (m ≤ mostTags) × (leaf < m) × Tree m (now tree) ⌝ }
-    ensures { λ r. ⌜ Put m leaf key (now (tree .entry)) (now (tree .exit)) × (r ≡ nth (now (tree .exit)) 1) ⌝ }
+    ensures { λ r. ⌜ Put m leaf key (now (tree .entry)) (now (tree .exit)) × (r ≡ at (now (tree .exit)) 1) ⌝ }
 {
     let mut i = m + leaf;
     // Node i's number, kept here so that no level waits for what the one below it stored.

@@ -12,7 +12,8 @@ use lib.Dec.{ltb}
 use lib.ListN.{length, getD, set, replicate, take, drop, take-append-drop, length-append, length-set}
 use lib.Seq.{getD-take, length-take-le, getD-set-same, getD-set-other, take-append-seam, take-take, take-nil, drop-drop}
 use Rattle.meaning.specs.declared.Page.{Page}
-use Rattle.meaning.specs.Picks.{Asked, Pick, Returned, Evidence, at}
+use Rattle.meaning.specs.Bytes.{at}
+use Rattle.meaning.specs.Picks.{Asked, Pick, Returned, Evidence}
 use Rattle.meaning.specs.Pages.{Records, Rows, none, row, Paged}
 use Rattle.meaning.specs.Fit.{Fit}
 use Rattle.meaning.proofs.Laws.Bytes.{zero-at}

@@ -4,7 +4,7 @@ ghost use Prim.Native.Nat.{ℕ, _+_, _*_, _/_, _<_, _≤_};
 ghost use lib.ListN.{length, set, drop, replicate};
 ghost use lib.Seq.{paste};
 ghost use Rattle.meaning.specs.Limits.{mostLabels, mostSteps};
-ghost use Rattle.meaning.specs.Picks.{at};
+ghost use Rattle.meaning.specs.Bytes.{at};
 ghost use Rattle.meaning.specs.Pages.{Paged};
 ghost use Rattle.cursors.specs.Plan.{planOf, Planned};
 ghost use Rattle.pages.specs.RowParts.{PartOf};

@@ -13,7 +13,8 @@ use Rattle.meaning.specs.declared.Page.{Page}
 use Rattle.meaning.specs.Limits.{mostSteps}
 use Rattle.meaning.specs.Day.{listOf}
 use Rattle.meaning.specs.Notation.{Path, Follows, steps}
-use Rattle.meaning.specs.Picks.{Asked, Evidence, asked, at, stepAt}
+use Rattle.meaning.specs.Bytes.{at}
+use Rattle.meaning.specs.Picks.{Asked, Evidence, asked, stepAt}
 use Rattle.meaning.specs.Pages.{Rows, none, row, Paged, evidenceRoom}
 use Rattle.meaning.specs.Refusals.{Clear, Lawful, checkTable, questionTable, callTable}
 use Rattle.meaning.specs.Promises.{Shown, refused, page}

@@ -4,7 +4,7 @@ use mathlib.Core.Path.{_≡_}
 use mathlib.Core.List.{List}
 use lib.ListN.{length}
 use Rattle.meaning.specs.Limits.{mostSteps}
-use Rattle.meaning.specs.Picks.{at}
+use Rattle.meaning.specs.Bytes.{at}
 use Rattle.meaning.specs.declared.Page.{Page}
 use Rattle.meaning.specs.Promises.{Shown}
 

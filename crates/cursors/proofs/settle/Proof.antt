@@ -5,7 +5,7 @@ use borrow.Author.Needs.{needs}
 use mathlib.Core.Path.{_≡_, refl, sym, subst}
 use mathlib.Core.List.{List}
 use lib.ListN.{length}
-use Rattle.meaning.specs.Picks.{at}
+use Rattle.meaning.specs.Bytes.{at}
 use Rattle.cursors.specs.Plan.{planOf, Planned}
 use Rattle.cursors.specs.Cursors.{Settled, found, ended}
 use Rattle.cursors.specs.declared.Sight.{Sight}

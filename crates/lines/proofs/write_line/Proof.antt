@@ -10,7 +10,7 @@ use mir.Facts.{fits-32-64}
 use borrow.Author.Needs.{needs}
 use Rattle.meaning.specs.declared.Label.{Label}
 use Rattle.meaning.specs.Day.{labelAt}
-use Rattle.meaning.specs.Picks.{at}
+use Rattle.meaning.specs.Bytes.{at}
 use Rattle.meaning.specs.Printing.{LineText}
 use Rattle.lines.specs.Adding.{Adds, AddsRecord}
 use Rattle.lines.proofs.StepLaws.{Begun, nothing, MayWrite, begun-room, write-room, write-same, write-first, write-next, begun-more, line-of, line-kept}

@@ -10,7 +10,8 @@ use lib.ListN.{length}
 use Rattle.meaning.specs.Answers.{Decides, holds}
 use Rattle.meaning.specs.declared.Label.{Label}
 use Rattle.meaning.specs.Notation.{Hook, nothing, from}
-use Rattle.meaning.specs.Picks.{Asked, Edge, Hung, Pick, Returned, Evidence, at}
+use Rattle.meaning.specs.Bytes.{at}
+use Rattle.meaning.specs.Picks.{Asked, Edge, Hung, Pick, Returned, Evidence}
 use Rattle.meaning.proofs.Decide.{decides-as, or-not, le-decides, both-decides, lt-decides, eq-decides, and-decides, not-decides, each, each-decides, some, some-decides}
 use Rattle.meaning.proofs.Decide.Nesting.{insideB, inside-decides}
 use Rattle.meaning.specs.Fit.{Fit}

@@ -7,7 +7,8 @@ use mathlib.Core.Logic.{⊎-elim}
 use mathlib.Core.List.{List}
 use lib.ListN.{length}
 use lib.Seq.{ext-getD}
-use Rattle.meaning.specs.Picks.{Asked, Pick, Returned, Evidence, at}
+use Rattle.meaning.specs.Bytes.{at}
+use Rattle.meaning.specs.Picks.{Asked, Pick, Returned, Evidence}
 use Rattle.meaning.proofs.Decide.{Least, least-of}
 use Rattle.meaning.specs.Fit.{Fit}
 use Rattle.meaning.proofs.Laws.Pick.{earlier, earlier-pick, same-pick}

@@ -6,7 +6,7 @@ use mathlib.Core.Path.{sym, ap, subst, _∙_}
 use mathlib.Core.List.{List}
 use Rattle.meaning.specs.declared.Label.{Label}
 use Rattle.meaning.specs.Day.{listsOf}
-use Rattle.order.specs.Tournament.{nth}
+use Rattle.meaning.specs.Bytes.{at}
 use Rattle.order.specs.Walk.{Comes, startOf, next}
 use Rattle.order.specs.Standing.{AtLabel, cursor}
 use Rattle.order.proofs.Filling.{label-here}
@@ -27,7 +27,7 @@ found a =
     subst (λ (r : ℕ). Comes (listsOf (bytes a)) (cursor (bytes a) (places a)) r) (sym (a .list-of .ensures .0)) (a .before .before .before .pre .2 .some (a .before .if1 .left))
 
 -- Its place is that label's.
-here : (a : tie.After-list-of) → AtLabel (bytes a) (a .list-of .result) (nth (places a) (a .list-of .result))
+here : (a : tie.After-list-of) → AtLabel (bytes a) (a .list-of .result) (at (places a) (a .list-of .result))
 here a = a .before .before .before .pre .1 .each (a .list-of .result) (found a .waits .holds .list-lt)
 
 returns : tie.Need-returns
@@ -63,9 +63,9 @@ returns-2 c =
     let a = o .before .before in
     let r = a .list-of .result in (
       found a,
-      ap (λ (k : ℕ). (nth (places a) r - k) / 8) (o .offset-of .ensures .0),
+      ap (λ (k : ℕ). (at (places a) r - k) / 8) (o .offset-of .ensures .0),
       s .start-of .ensures ∙ a .before .before .before .pre .2 .start (a .before .if1 .left) ∙ ap (λ (k : ℕ). startOf (listsOf (bytes a)) (next (cursor (bytes a) (places a)) k)) (sym (a .list-of .ensures .0)),
-      c .end-at .ensures .0 ∙ ap (λ (l : Label). l .end) (label-here (bytes a) r (nth (places a) r) (here a)),
+      c .end-at .ensures .0 ∙ ap (λ (l : Label). l .end) (label-here (bytes a) r (at (places a) r) (here a)),
     )
 
 pub comes-next-spec : {M : Type 1} → statement M

@@ -4,7 +4,8 @@ use Prim.Native.Nat.{ℕ}
 use native.Mathlib.Omega.{arith}
 use mathlib.Core.Path.{sym, subst}
 use mathlib.Core.List.{List}
-use Rattle.order.specs.Tournament.{nth, Tree}
+use Rattle.meaning.specs.Bytes.{at}
+use Rattle.order.specs.Tournament.{Tree}
 use Rattle.order.proofs.Passing.{list-lt, here, room, at-next, hands-out}
 use Rattle.order.proofs.pass.Statement.{statement}
 use Rattle.order.proofs.pass.Tie as tie

@@ -9,7 +9,8 @@ use borrow.Author.Tests.{not-true, not-false}
 use lib.ListN.{length, getD, set, take, drop, length-drop}
 use lib.Seq.{length-paste, take-paste, drop-paste}
 use Rattle.meaning.specs.Limits.{mostLabels}
-use Rattle.meaning.specs.Picks.{Asked, Evidence, at}
+use Rattle.meaning.specs.Bytes.{at}
+use Rattle.meaning.specs.Picks.{Asked, Evidence}
 use Rattle.cursors.specs.Plan.{planOf, Planned}
 use Rattle.cursors.specs.Cursors.{LeastPick}
 use Rattle.pages.specs.RowParts.{PartOf}

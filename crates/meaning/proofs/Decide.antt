@@ -45,6 +45,13 @@ pub if-not-true : {P : Type 0} {b : Bool} → Decides P b → not b ≡ true →
 if-not-true (holds p) e = absurd (false≢true e)
 if-not-true (fails n) e = n
 
+-- What is decided has one answer.
+pub decides-one : {P : Type 0} {a b : Bool} → Decides P a → Decides P b → a ≡ b
+decides-one (holds p) (holds q) = refl
+decides-one (holds p) (fails n) = absurd (n p)
+decides-one (fails n) (holds q) = absurd (n q)
+decides-one (fails n) (fails m) = refl
+
 -- What is decided holds or does not.
 pub or-not : {P : Type 0} {b : Bool} → Decides P b → P ⊎ (P → ⊥)
 or-not (holds p) = inl p

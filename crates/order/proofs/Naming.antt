@@ -33,7 +33,7 @@ module _ (t : Lists) (pos : ℕ → ℕ) (xs : List ℕ) (key : ℕ) (ascend : A
           here (yes k) = absurd (omega (arith, keys .key j l .none k))
           here (no d) =
               let room : pos j < t .count j = lt-of-not-le d in
-              let is : key ≡ mostTags * startOf t (next pos j) + j = top ∙ sym e ∙ keys .key j l .some room in
+              let is : key ≡ mostTags * startOf t (next pos j) + j = omega (arith, top, e, keys .key j l .some room) in
               let small : j < mostTags = omega arith in
               let waits : Waits t pos (next pos j) = record { holds = record { list-lt = l; at-lt = room }; ahead = omega arith } in (
                 j,

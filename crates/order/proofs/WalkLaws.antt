@@ -51,7 +51,7 @@ foretold-fixed t pos (Label l a s e) (Label k b u f) x y =
     let one = comes-one t pos l k (x .0) (y .0) in
     let at : a ≡ b = x .1 ∙ ap pos one ∙ sym (y .1) in
     let starts : s ≡ u = x .2 ∙ ap (λ (r : ℕ). startOf t (next pos r)) one ∙ sym (y .2) in
-    let ends : e ≡ f = x .3 ∙ ap (λ (r : ℕ). t .label r (pos r) .end) one ∙ sym (y .3) in
+    let ends : e ≡ f = cc (x .3, y .3, one) in
     λ j. Label (one j) (at j) (starts j) (ends j)
 foretold-fixed t pos (Label l a s e) End x y = absurd (done-none t pos l y (x .0))
 foretold-fixed t pos End (Label k b u f) x y = absurd (done-none t pos k x (y .0))
@@ -87,7 +87,7 @@ module _ (t : Lists) (pos pos′ : ℕ → ℕ) (r : ℕ) (moved : Moved pos pos
       go (no d) = inl (record { holds = s .holds; past = subst (λ (m : ℕ). x .at < m) (moved .other (x .list) d) (s .past) })
       go (yes e) =
           ⊎-elim (λ f. inr (λ i. record { list = e i; at = f i })) (λ f. inl (record { holds = s .holds; past = subst (λ (m : ℕ). x .at < pos m) (sym e) f }))
-          (below-or (subst (λ (m : ℕ). x .at < m) (ap pos′ e ∙ moved .here) (s .past)))
+          (below-or (omega (arith, ap pos′ e, moved .here, s .past)))
 
   -- No cursor goes back.
   moved-le : (s : ℕ) → pos s ≤ pos′ s

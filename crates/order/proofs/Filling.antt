@@ -14,7 +14,8 @@ use Rattle.meaning.specs.Labels.{Lists}
 use Rattle.meaning.specs.Day.{tags, offset, count, labelAt, listsOf}
 use Rattle.contents.specs.Parts.{Placed}
 use Rattle.meaning.specs.Bytes.{at}
-use Rattle.order.specs.Tournament.{numbers, nodes, past, Tree, SameLeaves, Root, Key, Keys}
+use Rattle.tournament.specs.Tournament.{numbers, nodes, past, Tree, SameLeaves, Root}
+use Rattle.order.specs.Keys.{Key, Keys}
 use Rattle.order.specs.Walk.{Ascend}
 use Rattle.order.specs.Standing.{positionAt, cursor, AtLabel, Cursors, Lent, Filled, Standing, Begun}
 use Rattle.order.proofs.WalkLaws.{none-seen}

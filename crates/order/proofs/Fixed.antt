@@ -9,7 +9,7 @@ use Rattle.meaning.specs.Limits.{mostTags}
 use Rattle.meaning.specs.Labels.{Lists, Place}
 use Rattle.meaning.specs.Day.{tags, listsOf}
 use Rattle.meaning.specs.Bytes.{at}
-use Rattle.order.specs.Tournament.{past}
+use Rattle.tournament.specs.Tournament.{past}
 use Rattle.order.specs.Walk.{startOf, next, Waits, Precedes, Comes}
 use Rattle.order.specs.Standing.{cursor, Cursors, Names, Begun, HandsOut}
 use Rattle.order.proofs.WalkLaws.{comes-one, done-none}

@@ -1,8 +1,6 @@
 -- What the functions' proofs rest on, with no mention of code.
 pub mod WalkLaws
 pub mod Left
-pub mod Playing
-pub mod Building
 pub mod Naming
 pub mod Filling
 pub mod Passing

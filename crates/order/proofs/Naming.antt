@@ -11,9 +11,10 @@ use Rattle.meaning.specs.Labels.{Lists}
 use Rattle.order.specs.Walk.{Ascend, Waits, startOf, next, Comes, Done}
 use Rattle.order.specs.Standing.{Names}
 use Rattle.meaning.specs.Bytes.{at}
-use Rattle.order.specs.Tournament.{past, Key, Keys, Root}
+use Rattle.tournament.specs.Tournament.{past, Root}
+use Rattle.order.specs.Keys.{Key, Keys}
 use Rattle.order.proofs.WalkLaws.{precedes-by, first-of-all}
-use Rattle.order.proofs.Playing.{root-least, root-leaf}
+use Rattle.tournament.proofs.Playing.{root-least, root-leaf}
 
 -- A list j whose next label comes next, and which a key names.
 record Named (t : Lists) (pos : ℕ → ℕ) (key j : ℕ) : Type 0 where

@@ -10,7 +10,8 @@ use lib.Seq.{getD-set-same, getD-set-other}
 use Rattle.meaning.specs.Limits.{mostTags}
 use Rattle.meaning.specs.Day.{tags, offset, count, listsOf}
 use Rattle.meaning.specs.Bytes.{at}
-use Rattle.order.specs.Tournament.{Tree, Root, Put, Key, Keys}
+use Rattle.tournament.specs.Tournament.{Tree, Root, Put}
+use Rattle.order.specs.Keys.{Key, Keys}
 use Rattle.order.specs.Walk.{Comes, Moved}
 use Rattle.order.specs.Standing.{positionAt, cursor, AtLabel, Cursors, Standing, HandsOut}
 use Rattle.order.proofs.WalkLaws.{sorted-on}

@@ -1,4 +1,4 @@
--- What a walk over all labels in order of start promises, and the tournament inside it.
+-- What a walk over all labels in order of start promises, and the keys inside it.
 pub mod Walk
-pub mod Tournament
+pub mod Keys
 pub mod Standing

@@ -9,7 +9,8 @@ use Rattle.meaning.specs.Day.{tags, offset, count, listsOf}
 use Rattle.contents.specs.Parts.{Placed}
 use Rattle.order.specs.Walk.{Ascend, Sorted, Comes, Moved, Done, startOf, next}
 use Rattle.meaning.specs.Bytes.{at}
-use Rattle.order.specs.Tournament.{nodes, past, Key, Keys}
+use Rattle.tournament.specs.Tournament.{nodes, past}
+use Rattle.order.specs.Keys.{Key, Keys}
 
 -- The position in list r of the label that begins at a place of the index.
 abbrev pub positionAt : List ℕ → ℕ → ℕ → ℕ

@@ -7,10 +7,11 @@ ghost use Rattle.meaning.specs.Limits.{mostTags};
 ghost use Rattle.meaning.specs.Day.{tags, listsOf};
 ghost use Rattle.contents.specs.Parts.{Placed};
 ghost use Rattle.order.specs.Walk.{Comes, Foretells};
-ghost use Rattle.order.specs.Tournament.{nodes, Key};
+ghost use Rattle.tournament.specs.Tournament.{nodes};
+ghost use Rattle.order.specs.Keys.{Key};
 ghost use Rattle.order.specs.Standing.{positionAt, cursor, AtLabel, Cursors, Names, Lent, Filled, Standing, Begun, HandsOut};
 
-mod tournament;
+mod keys;
 
 use contents::rows;
 use meaning::Index;
@@ -43,13 +44,13 @@ pub fn blank_places() -> [usize; Index::MOST_TAGS]
     [0; Index::MOST_TAGS]
 }
 
-// The key of list r when the label that begins at `place` is next in it.
+// The key of list r when the label that begins at `place` is next in it; that of a list that is done is one past all keys.
 fn key_at(index: &[u8], r: usize, place: usize) -> u64
     requires { ⌜ Placed (now index) × (r < tags (now index)) × AtLabel (now index) r place ⌝ }
     ensures { λ v. ⌜ Key (listsOf (now (index .entry))) r (positionAt (now (index .entry)) r place) v ⌝ }
 {
     if place < rows::end_of(index, r) {
-        return tournament::key(label::start_at(index, place, 0), r);
+        return keys::key(label::start_at(index, place, 0), r);
     }
     tournament::PAST
 }
@@ -90,12 +91,12 @@ pub fn comes_next(index: &[u8], places: &[usize; Index::MOST_TAGS], least: u64) 
     if tournament::PAST <= least {
         return Coming::End;
     }
-    let list = tournament::list_of(least);
+    let list = keys::list_of(least);
     let place = places[list];
     Coming::Label {
         list,
         at: (place - rows::offset_of(index, list)) / Label::BYTES,
-        start: tournament::start_of(least),
+        start: keys::start_of(least),
         end: label::end_at(index, place, 0),
     }
 }

@@ -6,7 +6,7 @@ use Prim.Native.Nat.{ℕ}
 use Rattle.meaning.specs.declared.Label.{Label}
 use Rattle.meaning.specs.Day.{listsOf}
 use Rattle.order.specs.Standing.{positionAt}
-use Rattle.order.specs.Tournament.{Key}
+use Rattle.order.specs.Keys.{Key}
 use Rattle.order.proofs.Filling.{label-here, key-some, key-none}
 use Rattle.order.proofs.key_at.Statement.{statement}
 use Rattle.order.proofs.key_at.Tie as tie

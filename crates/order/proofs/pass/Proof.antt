@@ -5,7 +5,7 @@ use native.Mathlib.Omega.{arith}
 use mathlib.Core.Path.{sym, subst}
 use mathlib.Core.List.{List}
 use Rattle.meaning.specs.Bytes.{at}
-use Rattle.order.specs.Tournament.{Tree}
+use Rattle.tournament.specs.Tournament.{Tree}
 use Rattle.order.proofs.Passing.{list-lt, here, room, at-next, hands-out}
 use Rattle.order.proofs.pass.Statement.{statement}
 use Rattle.order.proofs.pass.Tie as tie

@@ -4,7 +4,6 @@ use mathlib.Core.Path.{sym, ap, subst, _∙_}
 use borrow.Author.Needs.{needs}
 use lib.ListN.{length, length-replicate}
 use Rattle.meaning.specs.Limits.{mostTags}
-use Rattle.order.specs.Tournament.{nodes}
 use Rattle.order.specs.Standing.{Begun}
 use Rattle.day.proofs.sweep.nesting_wrong.Statement.{statement}
 use Rattle.day.proofs.sweep.nesting_wrong.Tie as tie
@@ -26,7 +25,7 @@ begin-requires c κs =
       placed = s .pre .0;
       ascend = λ r i j l. s .pre .1 r l .ascending i j;
       m-is = t .tags-of .ensures .0;
-      tree-long = ap length (c .before .before .before .blank-tree .ensures) ∙ length-replicate {A = ℕ} nodes 0;
+      tree-long = ap length (c .before .before .before .blank-tree .ensures) ∙ length-replicate {A = ℕ} _ 0;
       places-long = ap length (c .before .before .blank-places .ensures) ∙ length-replicate {A = ℕ} mostTags 0;
     }
 

@@ -1,9 +1,9 @@
--- `tournament::put` meets its contract. The loop's invariant: node i holds `best`, and every node but the one above i is right. The measure is i.
+-- `put` meets its contract. The loop's invariant: node i holds `best`, and every node but the one above i is right. The measure is i.
 use native.Mathlib.Omega.{arith}
 use borrow.Author.Needs.{needs}
-use Rattle.order.proofs.Playing.{Playing, playing-begin, playing-on, playing-end, beside-in}
-use Rattle.order.proofs.tournament.put.Statement.{statement}
-use Rattle.order.proofs.tournament.put.Tie as tie
+use Rattle.tournament.proofs.Playing.{Playing, playing-begin, playing-on, playing-end, beside-in}
+use Rattle.tournament.proofs.put.Statement.{statement}
+use Rattle.tournament.proofs.put.Tie as tie
 
 abbrev Inv-loop : tie.InvT-loop
 Inv-loop tree₀ m leaf key i₀ best₀ tree i best = Playing m leaf key tree₀ i best tree

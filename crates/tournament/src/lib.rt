@@ -1,11 +1,11 @@
-// The tournament of the lists' next starts: it says which list has the least, and after that list has moved on only the nodes above it
-// are played again. Number r of the m that play is list r's key, its next start and then r; node i holds the lesser of nodes 2i and 2i + 1.
+// The least of up to MOST_TAGS numbers, kept while they change: after one of them has changed, only the nodes above it are played again.
+// The m numbers that play stand at m to 2m - 1; node i, from 1 to m - 1, holds the lesser of nodes 2i and 2i + 1.
 ghost use mathlib.Core.Path.{_≡_};
-ghost use Prim.Native.Nat.{_+_, _*_, _/_, _%_, _<_, _≤_};
+ghost use Prim.Native.Nat.{_+_, _*_, _%_, _<_, _≤_};
 ghost use lib.ListN.{length};
 ghost use Rattle.meaning.specs.Limits.{mostTags};
 ghost use Rattle.meaning.specs.Bytes.{at};
-ghost use Rattle.order.specs.Tournament.{Lesser, Tree, Put, SameLeaves, Root, nodes, past};
+ghost use Rattle.tournament.specs.Tournament.{Lesser, Tree, Put, SameLeaves, Root, nodes};
 use meaning::Index;
 
 // How many places a tournament has.
@@ -14,14 +14,11 @@ pub const NODES: usize = 2 * Index::MOST_TAGS;
 // Where the least number stands.
 const ROOT: usize = 1;
 
-// How many keys there are for each start.
-const LISTS: u64 = Index::MOST_TAGS as u64;
-
 // How many 32-bit numbers there are.
 const NUMBERS: u64 = 4_294_967_296;
 
-// One past all keys: the key of a list that is done.
-pub const PAST: u64 = NUMBERS * LISTS;
+// What stands for none. Below it there are MOST_TAGS numbers for each number of 32 bits.
+pub const PAST: u64 = NUMBERS * (Index::MOST_TAGS as u64);
 
 // The lesser of two numbers.
 fn lesser(a: u64, b: u64) -> u64
@@ -55,30 +52,7 @@ pub fn put(tree: &mut [u64; NODES], m: usize, leaf: usize, key: u64) -> u64
     best
 }
 
-// The key of list r when its next label starts at `start`.
-pub fn key(start: u32, r: usize) -> u64
-    requires { ⌜ r < mostTags ⌝ }
-    ensures { λ v. ⌜ v ≡ mostTags * start + r ⌝ }
-{
-    LISTS * (start as u64) + (r as u64)
-}
-
-// The start that a key has.
-pub fn start_of(key: u64) -> u32
-    requires { ⌜ key < past ⌝ }
-    ensures { λ r. ⌜ r ≡ key / mostTags ⌝ }
-{
-    (key / LISTS) as u32
-}
-
-// The list that a key names.
-pub fn list_of(key: u64) -> usize
-    ensures { λ r. ⌜ (r ≡ key % mostTags) × (r < mostTags) ⌝ }
-{
-    (key % LISTS) as usize
-}
-
-// Plays all nodes, from the last to the root, and gives the least of all; of no numbers the least is past all keys.
+// Plays all nodes, from the last to the root, and gives the least of all; where none plays it gives PAST.
 pub fn play(tree: &mut [u64; NODES], m: usize) -> u64
     requires { ⌜ (m ≤ mostTags) × (length (now tree) ≡ nodes) ⌝ }
     ensures { λ r. ⌜ Tree m (now (tree .exit)) × SameLeaves m (now (tree .entry)) (now (tree .exit)) × Root m (now (tree .exit)) r ⌝ }

@@ -9,7 +9,7 @@ use lib.ListN.{length, set, length-set}
 use lib.Seq.{getD-set-same, getD-set-other}
 use Rattle.meaning.specs.Limits.{mostTags}
 use Rattle.meaning.specs.Bytes.{at}
-use Rattle.order.specs.Tournament.{nodes, Lesser, Tree, SameLeaves}
+use Rattle.tournament.specs.Tournament.{nodes, Lesser, Tree, SameLeaves}
 
 -- The loop of `play`: the nodes from i on hold the lesser of their two, and the numbers that play are those of xs.
 pub record Built (m : ℕ) (xs : List ℕ) (i : ℕ) (ys : List ℕ) : Type 0 where

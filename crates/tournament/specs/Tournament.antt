@@ -3,10 +3,9 @@ use Prim.Native.Nat.{ℕ, _+_, _*_, _≤_, _<_}
 use mathlib.Core.Path.{_≡_}
 use mathlib.Core.Logic.{_⊎_, _≢_}
 use mathlib.Core.List.{List}
-use lib.ListN.{length, getD}
+use lib.ListN.{length}
 use Rattle.meaning.specs.Bytes.{at}
 use Rattle.meaning.specs.Limits.{mostTags}
-use Rattle.meaning.specs.Labels.{Lists}
 
 -- v is the lesser of a and b.
 pub record Lesser (v a b : ℕ) : Type 0 where
@@ -37,22 +36,11 @@ pub record Put (m leaf key : ℕ) (xs ys : List ℕ) : Type 0 where
 abbrev pub numbers : ℕ
 numbers = 4_294_967_296
 
--- One past all keys.
+-- What stands for none: below it there are mostTags numbers for each number of 32 bits.
 abbrev pub past : ℕ
 past = numbers * mostTags
 
--- The least of the m numbers: the root's, and where there is none, one past all keys.
+-- The least of the m numbers: the root's, and where there is none, what stands for none.
 pub record Root (m : ℕ) (xs : List ℕ) (v : ℕ) : Type 0 where
   pub some : 0 < m → v ≡ at xs 1
   pub none : m ≡ 0 → v ≡ past
-
--- The key of list r at position p: its start there and then its number, or one past all such keys when it has no label there.
-pub record Key (t : Lists) (r p v : ℕ) : Type 0 where
-  pub some : p < t .count r → v ≡ mostTags * t .label r p .start + r
-  pub small : p < t .count r → v < past
-  pub none : t .count r ≤ p → v ≡ past
-
--- A tournament of the lists' keys at their cursors.
-pub record Keys (t : Lists) (pos : ℕ → ℕ) (xs : List ℕ) : Type 0 where
-  pub tree : Tree (t .many) xs
-  pub key : (r : ℕ) → r < t .many → Key t r (pos r) (at xs (t .many + r))

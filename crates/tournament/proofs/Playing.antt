@@ -11,7 +11,7 @@ use lib.ListN.{length, set, length-set}
 use lib.Seq.{getD-set-same, getD-set-other}
 use Rattle.meaning.specs.Limits.{mostTags}
 use Rattle.meaning.specs.Bytes.{at}
-use Rattle.order.specs.Tournament.{nodes, Lesser, Tree, Put}
+use Rattle.tournament.specs.Tournament.{nodes, Lesser, Tree, Put}
 
 -- A number is twice its half, or one more.
 halves : (n : ℕ) → (n ≡ 2 * (n / 2)) ⊎ (n ≡ 2 * (n / 2) + 1)

@@ -1,11 +1,11 @@
--- `tournament::play` meets its contract. The loop's invariant: the nodes from i on hold the lesser of their two. The measure is i.
+-- `play` meets its contract. The loop's invariant: the nodes from i on hold the lesser of their two. The measure is i.
 use borrow.Author.Needs.{needs}
 use Prim.Native.Nat.{ℕ, _+_, _-_}
 use native.Mathlib.Omega.{arith}
 use mathlib.Core.Path.{_≡_, refl, sym, subst}
-use Rattle.order.proofs.Building.{Built, built-begin, built-on, built-end}
-use Rattle.order.proofs.tournament.play.Statement.{statement}
-use Rattle.order.proofs.tournament.play.Tie as tie
+use Rattle.tournament.proofs.Building.{Built, built-begin, built-on, built-end}
+use Rattle.tournament.proofs.play.Statement.{statement}
+use Rattle.tournament.proofs.play.Tie as tie
 
 abbrev Inv-loop : tie.InvT-loop
 Inv-loop tree₀ m i₀ tree i = Built m tree₀ i tree

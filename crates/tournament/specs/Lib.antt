@@ -1,0 +1,2 @@
+-- What a tournament holds.
+pub mod Tournament

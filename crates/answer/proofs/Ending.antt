@@ -15,10 +15,10 @@ use Rattle.meaning.specs.Refusals.{Lawful}
 use Rattle.meaning.specs.Fit.{Fit}
 use Rattle.meaning.proofs.Laws.Day.{lawful-fit}
 use Rattle.cursors.specs.Plan.{planOf}
-use Rattle.answer.specs.Drawn.{Drawn}
+use Rattle.plan.specs.Drawn.{Drawn}
 use Rattle.pages.specs.RowParts.{PartOf}
-use Rattle.answer.proofs.Agreeing.{Agree, agree-back, evidence-agree, paged-agree}
-use Rattle.answer.proofs.Drawing.{drawn-agrees, drawn-fit}
+use Rattle.plan.proofs.Agreeing.{Agree, agree-back, evidence-agree, paged-agree}
+use Rattle.plan.proofs.Drawing.{drawn-agrees, drawn-fit}
 
 -- The part of a record's evidence at the returned step alone is its position.
 position-part : (a : Asked) → Fit a → (i : ℕ) (w : List ℕ) → PartOf a (a .returned) 1 i w → Position i w

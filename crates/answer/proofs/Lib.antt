@@ -1,6 +1,4 @@
--- From the text to the plan, and from the engine's page to what the calls promise.
-pub mod Agreeing
-pub mod Drawing
+-- From the engine's page to what the calls promise.
 pub mod Ending
 pub mod Responding
 pub mod Tied

@@ -20,7 +20,7 @@ use Rattle.question.specs.declared.Reading.{Reading}
 use Rattle.question.specs.Promise.{ReadAs, readTable}
 use Rattle.question.specs.Promise as reading
 use Rattle.cursors.specs.Plan.{planOf}
-use Rattle.answer.specs.Drawn.{Asks, Draws}
+use Rattle.plan.specs.Drawn.{Asks, Draws}
 use Rattle.pages.specs.RowParts.{PartOf}
 use Rattle.answer.specs.Response.{Responds}
 use Rattle.answer.proofs.Ending.{answer-page, evidence-page}

@@ -1,3 +1,2 @@
--- What the parts of the two calls promise to each other.
-pub mod Drawn
+-- What the two calls promise.
 pub mod Response

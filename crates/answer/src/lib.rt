@@ -1,14 +1,11 @@
 // The answer call and the evidence call.
-mod plan;
-
 ghost use mathlib.Core.Path.{_≡_};
 ghost use mathlib.Core.Bool.{false};
 ghost use Rattle.meaning.specs.Promises.{Answered, Shown};
 ghost use Rattle.answer.specs.Response.{Responds};
 use meaning::Page;
 use pages::write_page;
-pub use plan::Plan;
-pub use plan::draw;
+use plan::draw;
 
 // A refusal.
 fn refused(number: u32) -> Page

@@ -26,7 +26,7 @@ use Rattle.contents.proofs.FindLaws.{list-within}
 use Rattle.question.specs.declared.Reading.{Reading}
 use Rattle.question.specs.Promise.{ReadAs, readTable}
 use Rattle.question.specs.Promise as reading
-use Rattle.answer.specs.Drawn.{Asks, Drawn}
+use Rattle.plan.specs.Drawn.{Asks, Drawn}
 use Rattle.answer.proofs.Responding.{few-steps}
 
 -- What an accepted call has found.

@@ -3,11 +3,11 @@ ghost use Prim.Native.Nat.{_≤_};
 ghost use lib.ListN.{length};
 ghost use Rattle.meaning.specs.Limits.{mostSteps};
 ghost use Rattle.roadthrum.specs.PageRows.{RowAt, PageGiven};
-use answer::draw;
 use lines::Line;
 use lines::write_line;
 use meaning::Page;
 use meaning::Step;
+use plan::draw;
 
 const OUT: i32 = libc::STDOUT_FILENO;
 

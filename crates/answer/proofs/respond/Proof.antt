@@ -5,10 +5,9 @@ use mathlib.Core.List.{List}
 use Rattle.meaning.specs.Refusals.{Lawful}
 use Rattle.meaning.proofs.Laws.Table.{checked-lawful}
 use Rattle.meaning.proofs.Laws.Step.{steps-some}
-use Rattle.contents.proofs.FindLaws.{list-within}
 use Rattle.cursors.specs.Plan.{Planned}
 use Rattle.cursors.proofs.SettleTurns.{ret-of}
-use Rattle.answer.proofs.Drawing.{drawn-planned}
+use Rattle.plan.proofs.Drawing.{drawn-planned}
 use Rattle.answer.proofs.Responding.{Heard, heard, refuse-index, refuse-text, give-answer, give-evidence}
 use borrow.Author.Needs.{needs}
 use Rattle.answer.proofs.respond.Statement.{statement}
@@ -35,7 +34,7 @@ planned : (d : tie.After-draw) → Planned (start (first (second d)) .args .inde
 planned d =
     let w = d .draw .ensures in
     let e = first (second d) in
-    drawn-planned (start e .args .index .now) (w .writes .tree) _ _ _ _ _ (law e) (w .few) (w .drawn) (λ n. list-within (start e .args .index .now) n (law e))
+    drawn-planned (start e .args .index .now) (w .writes .tree) _ _ _ _ _ (law e) (w .few) (w .drawn)
 
 some-steps : (d : tie.After-draw) → 1 ≤ second d .before .before .read .result .question .count
 some-steps d = omega (arith, d .draw .ensures .drawn .k-is, steps-some (d .draw .ensures .writes .tree))

@@ -3,7 +3,7 @@ ghost use mathlib.Core.Path.{_≡_};
 ghost use lib.ListN.{replicate};
 ghost use Rattle.meaning.specs.Limits.{mostSteps};
 ghost use Rattle.meaning.specs.Refusals.{Lawful};
-ghost use Rattle.answer.specs.Drawn.{Asks, Draws};
+ghost use Rattle.plan.specs.Drawn.{Asks, Draws};
 use meaning::Question;
 use meaning::Step;
 

@@ -1,4 +1,4 @@
--- `answer::plan::draw` meets its contract. The loop's invariant is `Drawing`.
+-- `plan::draw` meets its contract. The loop's invariant is `Drawing`.
 use Prim.Native.Nat.{ℕ, _+_, _-_, _≤_, _<_}
 use native.Mathlib.Omega.{arith}
 use borrow.Author.Needs.{needs}
@@ -11,10 +11,10 @@ use Rattle.meaning.specs.Notation.{steps}
 use Rattle.meaning.specs.Picks.{stepAt}
 use Rattle.question.specs.Stored.{blankStep}
 use Rattle.question.proofs.StoredSteps.{StoredAs}
-use Rattle.answer.specs.Drawn.{Asks, Draws}
-use Rattle.answer.proofs.Drawing.{Drawing, draw-begin, draw-on, draw-end, asked-step}
-use Rattle.answer.proofs.plan.draw.Statement.{statement}
-use Rattle.answer.proofs.plan.draw.Tie as tie
+use Rattle.plan.specs.Drawn.{Asks, Draws}
+use Rattle.plan.proofs.Drawing.{Drawing, draw-begin, draw-on, draw-end, asked-step}
+use Rattle.plan.proofs.draw.Statement.{statement}
+use Rattle.plan.proofs.draw.Tie as tie
 
 abbrev Inv-loop : tie.InvT-loop
 Inv-loop index text question hangs₀ offsets₀ counts₀ count s₀ hangs offsets counts s =

@@ -24,13 +24,14 @@ use Rattle.meaning.proofs.Laws.Day.{lawful-fit, list-of-row, list-small}
 use Rattle.meaning.proofs.Laws.Notation.{one-tree}
 use Rattle.meaning.proofs.Laws.Step.{hook-upward}
 use Rattle.meaning.proofs.Laws.Promise.{lawful-small}
+use Rattle.contents.proofs.FindLaws.{list-within}
 use Rattle.question.specs.Stored.{hookNumber, questionOf, blankStep}
 use Rattle.question.proofs.StoredSteps.{StoredAs, stored-step}
 use Rattle.cursors.specs.Plan.{hookOf, planOf, Planned}
-use Rattle.answer.specs.Drawn.{Column, Drawn, Asks, Draws}
+use Rattle.plan.specs.Drawn.{Column, Drawn, Asks, Draws}
 use Rattle.cursors.proofs.SettleTurns.{hook-from, hook-nothing}
 use Rattle.cursors.proofs.Moves.{set-cases}
-use Rattle.answer.proofs.Agreeing.{Agree, agree-back}
+use Rattle.plan.proofs.Agreeing.{Agree}
 
 -- A hook is found again from its number, if a step's number is below 255.
 hook-again : (h : Hook) → ((u : ℕ) → h ≡ from u → u < 255) → hookOf (hookNumber h) ≡ h
@@ -76,15 +77,14 @@ module _ (b : List ℕ) (p : Path) (k ret : ℕ) (hangs offsets counts : List �
   unfolding asked planOf
   drawn-fit = fit-agree (asked b p) (planOf b k ret hangs offsets counts) drawn-agrees (lawful-fit b p law) (d .counts-are .blank)
 
-  -- Each list lies within a lawful index, of which the rows' lists are known to.
-  module _ (held : (n : List ℕ) → listOf b n .offset + 8 * listOf b n .count ≤ length b) where
-    pub drawn-planned : Planned b k ret hangs offsets counts
-    drawn-planned = record {
-      few = omega (arith, d .k-is);
-      held = λ s l. let m : s < steps p = omega (arith, d .k-is) in omega (arith, d .offsets-are .are s m, d .counts-are .are s m, held (stepAt p s .name));
-      small = λ s l. let m : s < steps p = omega (arith, d .k-is) in omega (arith, d .counts-are .are s m, list-small b (stepAt p s .name), lawful-small b law);
-      fit = drawn-fit;
-    }
+  -- Each list lies within a lawful index.
+  pub drawn-planned : Planned b k ret hangs offsets counts
+  drawn-planned = record {
+    few = omega (arith, d .k-is);
+    held = λ s l. let m : s < steps p = omega (arith, d .k-is) in omega (arith, d .offsets-are .are s m, d .counts-are .are s m, list-within b (stepAt p s .name) law);
+    small = λ s l. let m : s < steps p = omega (arith, d .k-is) in omega (arith, d .counts-are .are s m, list-small b (stepAt p s .name), lawful-small b law);
+    fit = drawn-fit;
+  }
 
 -- An array of zeros holds nothing yet.
 column-begin : (f : ℕ → ℕ) (xs : List ℕ) → xs ≡ replicate 32 0 → Column 0 f xs

@@ -1,0 +1,3 @@
+-- Why a plan is fit, and agrees with the question of the text.
+pub mod Agreeing
+pub mod Drawing

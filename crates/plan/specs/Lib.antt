@@ -1,0 +1,2 @@
+-- What a plan is.
+pub mod Drawn

@@ -1,3 +1,2 @@
--- What the table of contents leaves to those that stand on it, and what its small tests are about.
+-- What the table of contents leaves to those that stand on it.
 pub mod Parts
-pub mod Tests

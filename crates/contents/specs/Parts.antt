@@ -4,12 +4,7 @@ use mathlib.Core.List.{List}
 use lib.ListN.{length, take, drop}
 use Rattle.meaning.specs.declared.Body.{Body}
 use Rattle.meaning.specs.Limits.{mostTags, mostLabels}
-use Rattle.meaning.specs.Day.{tags, offset, count, rowAt, rowList, TooShort, OtherVersion, WrongContents, WrongLength}
-use Rattle.meaning.specs.Refusals.{Table, end, row}
-
--- Rows 1 to 4 of the refusal table, which are about the table of contents.
-abbrev pub contentsTable : List ℕ → Table
-contentsTable b = row 1 (TooShort b) (row 2 (OtherVersion b) (row 3 (WrongContents b) (row 4 (WrongLength b) end)))
+use Rattle.meaning.specs.Day.{tags, offset, count, rowAt, rowList}
 
 -- What refusals 1 to 4 leave: every row and every list lies within the index.
 pub record Placed (b : List ℕ) : Type 0 where

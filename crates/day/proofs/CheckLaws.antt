@@ -5,7 +5,7 @@ use mathlib.Core.Logic.{_≢_}
 use mathlib.Core.List.{List}
 use Rattle.meaning.specs.Refusals.{Given, Clear, Verdict, clear, given, checkTable}
 use Rattle.meaning.proofs.Laws.Table.{given-first, given-after, clear-both}
-use Rattle.contents.specs.Parts.{contentsTable}
+use Rattle.table.specs.Parts.{contentsTable}
 use Rattle.day.specs.Parts.{listsTable}
 
 -- Where another number is given it is the check's.

@@ -10,7 +10,7 @@ use sweep::nesting_wrong;
 pub fn check(index: &[u8]) -> u32
     ensures { λ r. ⌜ Checked (now (index .entry)) r ⌝ }
 {
-    let refusal = contents::refusal(index);
+    let refusal = table::refusal(index);
     if refusal != 0 {
         return refusal;
     }

@@ -7,9 +7,8 @@ use borrow.Author.Needs.{needs}
 use Rattle.meaning.specs.Day.{WrongLists, WrongNesting}
 use Rattle.meaning.specs.Refusals.{Clear}
 use Rattle.meaning.proofs.Decide.{if-true, if-false}
-use Rattle.contents.specs.Parts.{contentsTable}
-use Rattle.contents.proofs.Placing.{placed-of}
-use Rattle.contents.proofs.TableLaws.{contents-clear}
+use Rattle.table.specs.Parts.{contentsTable}
+use Rattle.table.proofs.TableLaws.{contents-clear, placed-of}
 use Rattle.lists.proofs.Listing.{ordered-of}
 use Rattle.day.proofs.CheckLaws.{contents-refuses, lists-refuse, none-refuses}
 use Rattle.day.proofs.check.Statement.{statement}

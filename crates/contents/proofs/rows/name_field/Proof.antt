@@ -1,7 +1,7 @@
 -- `rows::name_field` meets its contract: the 16 bytes from where row r begins are its name field.
 use mathlib.Core.Path.{ap, _∙_}
 use lib.ListN.{length}
-use Rattle.contents.proofs.RowLaws.{field-part, field-length}
+use Rattle.contents.proofs.FieldLaws.{field-part, field-length}
 use borrow.Author.Needs.{needs}
 use Rattle.contents.proofs.rows.name_field.Statement.{statement}
 use Rattle.contents.proofs.rows.name_field.Tie as tie

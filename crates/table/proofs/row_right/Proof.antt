@@ -7,9 +7,9 @@ use Rattle.meaning.specs.Day.{offset, nameField}
 use Rattle.meaning.specs.Answers.{Decides, fails}
 use Rattle.meaning.proofs.Decide.{if-not-true, if-not-false}
 use Rattle.filled.specs.Fields.{Named}
-use Rattle.contents.proofs.RowLaws.{row-as, row-named}
-use Rattle.contents.proofs.table.row_right.Statement.{statement}
-use Rattle.contents.proofs.table.row_right.Tie as tie
+use Rattle.table.proofs.RowLaws.{row-as, row-named}
+use Rattle.table.proofs.row_right.Statement.{statement}
+use Rattle.table.proofs.row_right.Tie as tie
 
 -- Whether a name stands in row r's field.
 name-decides : (c : tie.After-has-name) → Decides (Named (nameField (c .before .before .before .args .index .now) (c .before .before .before .args .r))) (c .has-name .result)

@@ -2,8 +2,8 @@
 use mathlib.Core.Path.{sym, _∙_}
 use Rattle.meaning.proofs.Decide.{decides-as, eq-decides}
 use borrow.Author.Needs.{needs}
-use Rattle.contents.proofs.table.begins_at.Statement.{statement}
-use Rattle.contents.proofs.table.begins_at.Tie as tie
+use Rattle.table.proofs.begins_at.Statement.{statement}
+use Rattle.table.proofs.begins_at.Tie as tie
 
 offset-of-requires : tie.Need-offset-of-requires
 offset-of-requires c κs = search needs

@@ -3,9 +3,9 @@ use borrow.Author.Needs.{needs}
 use Prim.Native.Nat.{_-_}
 use native.Mathlib.Omega.{arith}
 use Rattle.meaning.proofs.Decide.{if-not-true, if-not-false}
-use Rattle.contents.proofs.RowLaws.{Counted, counted-begin, counted-on, counted-end}
-use Rattle.contents.proofs.table.all_rows.Statement.{statement}
-use Rattle.contents.proofs.table.all_rows.Tie as tie
+use Rattle.table.proofs.RowLaws.{Counted, counted-begin, counted-on, counted-end}
+use Rattle.table.proofs.all_rows.Statement.{statement}
+use Rattle.table.proofs.all_rows.Tie as tie
 
 abbrev Inv-loop : tie.InvT-loop
 Inv-loop index many bodies labels₀ r₀ labels r = Counted index r labels

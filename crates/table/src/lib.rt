@@ -1,4 +1,4 @@
-// The table of contents, and refusals 1 to 4, which are about it.
+// Refusals 1 to 4 of a day index, which are about its table of contents.
 ghost use mathlib.Core.Path.{_≡_};
 ghost use Prim.Native.Nat.{_+_, _*_, _≤_, _<_};
 ghost use lib.ListN.{length};
@@ -6,13 +6,13 @@ ghost use Rattle.meaning.specs.Limits.{mostTags};
 ghost use Rattle.meaning.specs.Day.{tags, rowAt, offset, bodyAt, RowRight};
 ghost use Rattle.meaning.specs.Refusals.{Verdict};
 ghost use Rattle.meaning.specs.Answers.{Decides};
-ghost use Rattle.contents.specs.Parts.{contentsTable};
-ghost use Rattle.contents.specs.Tests.{InOrder, AllRows};
-use crate::rows::count_of;
-use crate::rows::name_field;
-use crate::rows::offset_of;
-use crate::rows::tags_of;
-use crate::rows::version_of;
+ghost use Rattle.table.specs.Parts.{contentsTable};
+ghost use Rattle.table.specs.Tests.{InOrder, AllRows};
+use contents::rows::count_of;
+use contents::rows::name_field;
+use contents::rows::offset_of;
+use contents::rows::tags_of;
+use contents::rows::version_of;
 use filled::comes_before;
 use filled::has_name;
 use meaning::Index;
@@ -54,9 +54,9 @@ fn row_right(index: &[u8], r: usize, place: usize) -> bool
 }
 
 // What looking at all rows finds: whether they are right, and how many labels they have together.
-pub struct Rows {
-    pub ok: bool,
-    pub labels: usize,
+struct Rows {
+    ok: bool,
+    labels: usize,
 }
 
 // Looks at all rows. The sum is exact: 256 counts of 32 bits fit a usize many times over.

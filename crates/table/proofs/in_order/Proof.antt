@@ -5,9 +5,9 @@ use mathlib.Core.List.{List}
 use Prim.Native.Nat.{ℕ}
 use Rattle.meaning.specs.Names.{Sooner}
 use Rattle.meaning.specs.Answers.{Decides, holds}
-use Rattle.contents.proofs.RowLaws.{first-in-order, later-in-order}
-use Rattle.contents.proofs.table.in_order.Statement.{statement}
-use Rattle.contents.proofs.table.in_order.Tie as tie
+use Rattle.table.proofs.RowLaws.{first-in-order, later-in-order}
+use Rattle.table.proofs.in_order.Statement.{statement}
+use Rattle.table.proofs.in_order.Tie as tie
 
 returns : tie.Need-returns
 returns c = holds (first-in-order _ _ (c .if1 .taken))

@@ -1,4 +1,4 @@
--- The rows of the table of contents: the name field of a row, the order of a row, and the loop over all rows.
+-- The rows of the table of contents: the order of a row, when a row is right, and the loop over all rows.
 use Prim.Native.Nat.{ℕ, suc, _+_, _*_, _-_, _≤_, _<_}
 use native.Mathlib.Nat.{eq-or-lt-of-le}
 use native.Mathlib.Omega.{arith}
@@ -7,24 +7,13 @@ use mathlib.Core.Path.{_≡_, refl, sym, ap, subst, _∙_}
 use mathlib.Core.Logic.{_≢_, ⊎-elim}
 use mathlib.Core.Bool.{Bool, true}
 use mathlib.Core.List.{List}
-use lib.ListN.{length, take, drop, length-drop}
-use lib.Seq.{length-take-le}
-use Rattle.meaning.specs.Limits.{mostName}
 use Rattle.meaning.specs.Names.{Sooner}
-use Rattle.meaning.specs.Day.{tags, count, labels, offset, bodyAt, rowAt, nameField, RowRight}
+use Rattle.meaning.specs.Day.{tags, count, labels, offset, bodyAt, nameField, RowRight}
 use Rattle.meaning.specs.Answers.{Decides}
 use Rattle.meaning.proofs.Decide.{decides-as}
-use Rattle.meaning.proofs.Laws.Bytes.{part-from}
 use Rattle.filled.specs.Fields.{Named}
-use Rattle.contents.specs.Tests.{InOrder, AllRows}
-
--- The bytes from where row r begins to 16 bytes further on are its name field.
-pub field-part : (b : List ℕ) (r : ℕ) → take (rowAt r + mostName - rowAt r) (drop (rowAt r) b) ≡ nameField b r
-field-part b r = part-from b (rowAt r) mostName
-
--- The name field of a row within the index has 16 bytes.
-pub field-length : (b : List ℕ) (r : ℕ) → rowAt r + 24 ≤ length b → length (nameField b r) ≡ mostName
-field-length b r l = length-take-le mostName (drop (rowAt r) b) (rw length-drop (omega arith))
+use Rattle.contents.proofs.Placing.{labels-suc}
+use Rattle.table.specs.Tests.{InOrder, AllRows}
 
 -- The first row has none before it.
 pub first-in-order : (b : List ℕ) (r : ℕ) → r ≡ 0 → InOrder b r
@@ -60,11 +49,6 @@ pub record Counted (b : List ℕ) (r n : ℕ) : Type 0 where
 pub counted-begin : (b : List ℕ) → Counted b 0 0
 unfolding labels
 counted-begin b = record { r-le = omega arith; right = λ k l. absurd (omega arith); n-is = refl; n-le = omega arith }
-
--- One row more has its own labels more.
-pub labels-suc : (b : List ℕ) (r : ℕ) → labels b (suc r) ≡ labels b r + count b r
-unfolding labels
-labels-suc b r = refl
 
 -- A row that is right is counted.
 pub counted-on : (b : List ℕ) (r n v : ℕ) → Counted b r n → r < tags b → RowRight b r → v ≡ count b r → v < 4294967296 → Counted b (r + 1) (n + v)

@@ -10,10 +10,10 @@ use mathlib.Core.List.{List}
 use lib.ListN.{length}
 use Rattle.meaning.specs.Limits.{mostTags, mostLabels}
 use Rattle.meaning.specs.Day.{tags, version, rowAt, total}
-use Rattle.contents.specs.Tests.{AllRows}
-use Rattle.contents.proofs.TableLaws.{refused-1, refused-2, refused-3, refused-4, accepted}
-use Rattle.contents.proofs.table.refusal.Statement.{statement}
-use Rattle.contents.proofs.table.refusal.Tie as tie
+use Rattle.table.specs.Tests.{AllRows}
+use Rattle.table.proofs.TableLaws.{refused-1, refused-2, refused-3, refused-4, accepted}
+use Rattle.table.proofs.refusal.Statement.{statement}
+use Rattle.table.proofs.refusal.Tie as tie
 
 -- The index, behind the test of its version.
 abbrev b₂ : tie.Else2 → List ℕ

@@ -9,7 +9,9 @@ use Rattle.meaning.specs.Limits.{mostTags, mostLabels}
 use Rattle.meaning.specs.Day.{tags, version, rowAt, total, RowRight, TooShort, OtherVersion, WrongContents, WrongLength}
 use Rattle.meaning.specs.Refusals.{Clear, Verdict, clear, given}
 use Rattle.meaning.proofs.Laws.Table.{Rising, zero-clear}
-use Rattle.contents.specs.Parts.{contentsTable}
+use Rattle.contents.specs.Parts.{Placed}
+use Rattle.contents.proofs.Placing.{placed-unless}
+use Rattle.table.specs.Parts.{contentsTable}
 
 module _ (b : List ℕ) where
   -- The index is too short.
@@ -60,3 +62,7 @@ contents-rising b = (omega arith, (omega arith, (omega arith, (omega arith, tt))
 -- Where 0 is given no reason of 1 to 4 applies.
 pub contents-clear : (b : List ℕ) (n : ℕ) → n ≡ 0 → Verdict (contentsTable b) n → Clear (contentsTable b)
 contents-clear b = zero-clear (contentsTable b) (contents-rising b)
+
+-- What they leave: every row and every list lies within the index.
+pub placed-of : (b : List ℕ) → Clear (contentsTable b) → Placed b
+placed-of b (no₁, (no₂, (no₃, (no₄, rest)))) = placed-unless b no₃ no₄

@@ -5,8 +5,8 @@ use mathlib.Core.Logic.{_≢_}
 use mathlib.Core.List.{List}
 use Rattle.meaning.specs.Refusals.{Given, Clear, Verdict, clear, given, checkTable}
 use Rattle.meaning.proofs.Laws.Table.{given-first, given-after, clear-both}
-use Rattle.table.specs.Parts.{contentsTable}
-use Rattle.day.specs.Parts.{listsTable}
+use Rattle.table.specs.ContentsTable.{contentsTable}
+use Rattle.day.specs.ListsTable.{listsTable}
 
 -- Where another number is given it is the check's.
 pub contents-refuses : (b : List ℕ) (n : ℕ) → n ≢ 0 → Verdict (contentsTable b) n → Verdict (checkTable b) n

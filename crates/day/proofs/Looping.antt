@@ -16,7 +16,7 @@ use Rattle.day.specs.declared.open.Open.{Open}
 use Rattle.day.specs.declared.sweep.State.{State}
 use Rattle.day.specs.Entries.{entry}
 use Rattle.day.specs.Sweep.{Judged, Turned}
-use Rattle.day.proofs.Rounds.{Standing, Round, reread, weight, round-less, round-push, round-pop}
+use Rattle.day.proofs.Rounds.{AtTurn, Round, reread, weight, round-less, round-push, round-pop}
 use Rattle.day.proofs.sweep.State as S
 use Rattle.day.proofs.sweep.State.Laws as S′
 
@@ -47,7 +47,7 @@ less-wf ix m = InvImage·wf (λ (x : Turn ix m). weight ix (x .1) (x .2)) (Nat·
 
 module _ (ix : List ℕ) (m : ℕ) (tr ps : List ℕ) (s : State) (ys : List Open) (f : Facts ix m tr ps s ys) (g : s .going ≡ true) where
   -- While the loop goes on the sweep stands between two turns.
-  pub stands : (stack : ℕ → Place) × Standing ix m tr ps ys s stack
+  pub stands : (stack : ℕ → Place) × AtTurn ix m tr ps ys s stack
   stands = subst (λ (y : Bool). Round y ix m tr ps ys s) g (f .1)
 
   module _ (tr′ ps′ : List ℕ) (s′ : State) (turned : Turned ix m tr ps s tr′ ps′ s′) where

@@ -27,7 +27,7 @@ abbrev pub InTable : Lists → (ℕ → Place) → List Open → ℕ → Type 0
 InTable t stack table depth = (k : ℕ) → k < depth → Same t (stack k) (entry table k)
 
 -- The sweep between two turns.
-pub record Standing (b : List ℕ) (m : ℕ) (tree places : List ℕ) (table : List Open) (s : State) (stack : ℕ → Place) : Type 0 where
+pub record AtTurn (b : List ℕ) (m : ℕ) (tree places : List ℕ) (table : List Open) (s : State) (stack : ℕ → Place) : Type 0 where
   pub ready : BeforeTurn b m tree places (s .depth) (s .least)
   pub swept : Swept (listsOf b) (cursor b places) stack (s .depth)
   pub inner : Innermost (listsOf b) stack s
@@ -35,7 +35,7 @@ pub record Standing (b : List ℕ) (m : ℕ) (tree places : List ℕ) (table : L
 
 -- The loop's invariant: the sweep stands between two turns, and when it is over its answer is right.
 abbrev pub Round : Bool → List ℕ → ℕ → List ℕ → List ℕ → List Open → State → Type 0
-Round true b m tree places table s = (stack : ℕ → Place) × Standing b m tree places table s stack
+Round true b m tree places table s = (stack : ℕ → Place) × AtTurn b m tree places table s stack
 Round false b m tree places table s = Decides (Tangled (listsOf b)) (s .wrong)
 
 -- The state with the innermost record that was read.
@@ -71,7 +71,7 @@ round-begin b m tree places table s f =
       },
     )
 
-module _ (b : List ℕ) (m : ℕ) (tree places : List ℕ) (table : List Open) (s : State) (stack : ℕ → Place) (w : Standing b m tree places table s stack) (tree′ places′ : List ℕ) (s′ : State) (judged : Judged b m tree places stack s tree′ places′ s′) where
+module _ (b : List ℕ) (m : ℕ) (tree places : List ℕ) (table : List Open) (s : State) (stack : ℕ → Place) (w : AtTurn b m tree places table s stack) (tree′ places′ : List ℕ) (s′ : State) (judged : Judged b m tree places stack s tree′ places′ s′) where
   -- A turn makes the weight less.
   pub round-less : s .going ≡ true → weight b places′ s′ < weight b places s
   round-less g = go judged

@@ -1,4 +1,4 @@
 -- What the parts of the check promise to each other.
-pub mod Parts
+pub mod ListsTable
 pub mod Entries
 pub mod Sweep

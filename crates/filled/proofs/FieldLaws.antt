@@ -14,7 +14,7 @@ use Rattle.meaning.specs.Ends.{NoFurther}
 use Rattle.meaning.proofs.Laws.Bytes.{zero-at}
 use Rattle.name.specs.Runs.{nameRun}
 use Rattle.name.proofs.RunLaws.{run-name, run-of-name, run-within}
-use Rattle.filled.specs.Fields.{ZeroFrom, Named}
+use Rattle.filled.specs.Fields.{ZeroFrom, HasName}
 use Rattle.filled.proofs.Bounds.{below-or-not}
 
 -- A name that is filled up has 16 bytes.
@@ -62,15 +62,15 @@ name-some (c ∷ cs) h = omega arith
 -- A name in a field, by the run r of name characters at the field's beginning.
 module _ (f : List ℕ) (r : ℕ) (run : r ≡ nameRun f) where
   -- The name that stands in the field is the whole run.
-  run-is : (h : Named f) → r ≡ length (h .name)
+  run-is : (h : HasName f) → r ≡ length (h .name)
   run-is h = run ∙ ap nameRun (h .here) ∙ run-of-name (h .name) (replicate (mostName - length (h .name)) 0) (h .is-name) (zeros-stop (mostName - length (h .name)))
 
   -- A field that begins with no name character has no name.
-  pub unnamed : r ≡ 0 → Named f → ⊥
+  pub unnamed : r ≡ 0 → HasName f → ⊥
   unnamed e h = omega (arith, run-is h, name-some (h .name) (h .is-name))
 
   -- A field with a run, and zeros behind it, has a name.
-  pub named : length f ≡ mostName → r ≢ 0 → ZeroFrom f r → Named f
+  pub named : length f ≡ mostName → r ≢ 0 → ZeroFrom f r → HasName f
   named long some zeros =
       let l : r ≤ length f = rw run (run-within f) in
       let n : length (take r f) ≡ r = length-take-le r f l in
@@ -81,7 +81,7 @@ module _ (f : List ℕ) (r : ℕ) (run : r ≡ nameRun f) where
       }
 
   -- Behind the run of a field that has a name are zeros.
-  pub named-zeros : Named f → ZeroFrom f r
+  pub named-zeros : HasName f → ZeroFrom f r
   named-zeros h i l = filled-zeros f (h .name) (h .here) i (omega (arith, run-is h))
 
 -- Two fields have the same bytes up to place k.

@@ -11,7 +11,7 @@ abbrev pub ZeroFrom : List ℕ → ℕ → Type 0
 ZeroFrom s n = (i : ℕ) → n ≤ i → i < length s → at s i ≡ 0
 
 -- A name, filled up with zero bytes, stands in the field.
-pub record Named (f : List ℕ) : Type 0 where
+pub record HasName (f : List ℕ) : Type 0 where
   pub name : List ℕ
   pub is-name : Name name
   pub here : f ≡ filled name

@@ -4,7 +4,7 @@ ghost use lib.ListN.{length};
 ghost use Rattle.meaning.specs.Limits.{mostName};
 ghost use Rattle.meaning.specs.Names.{filled, Sooner};
 ghost use Rattle.meaning.specs.Answers.{Decides};
-ghost use Rattle.filled.specs.Fields.{ZeroFrom, Named};
+ghost use Rattle.filled.specs.Fields.{ZeroFrom, HasName};
 use meaning::Name;
 
 // Whether the bytes of s from n on are zero.
@@ -24,7 +24,7 @@ fn zero_from(s: &[u8], n: usize) -> bool
 // Whether a name stands in the field, filled up with zero bytes.
 pub fn has_name(field: &[u8]) -> bool
     requires { ⌜ length (now field) ≡ mostName ⌝ }
-    ensures { λ r. ⌜ Decides (Named (now (field .entry))) r ⌝ }
+    ensures { λ r. ⌜ Decides (HasName (now (field .entry))) r ⌝ }
 {
     let n = name::name_run(field);
     if n == 0 {

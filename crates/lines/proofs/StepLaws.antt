@@ -26,9 +26,9 @@ abbrev pub mostStep : ℕ
 mostStep = mostRecord + 1
 
 -- The loop's invariant: nothing is written yet, or the records of the first s steps, with room for a blank or the line feed.
-pub data Begun (label : ℕ → Label) (entry line : List ℕ) (to s : ℕ) : Type 0 where
-  nothing : s ≡ 0 → to ≡ 0 → Kept entry line to → Begun label entry line to s
-  some : StepsText label s (take to line) → to < mostStep * s → Kept entry line to → Begun label entry line to s
+pub data LineBegun (label : ℕ → Label) (entry line : List ℕ) (to s : ℕ) : Type 0 where
+  nothing : s ≡ 0 → to ≡ 0 → Kept entry line to → LineBegun label entry line to s
+  some : StepsText label s (take to line) → to < mostStep * s → Kept entry line to → LineBegun label entry line to s
 
 -- What a record can be written behind: nothing, or the records of the first s steps and a blank.
 pub data MayWrite (label : ℕ → Label) (entry line : List ℕ) (to s : ℕ) : Type 0 where
@@ -37,7 +37,7 @@ pub data MayWrite (label : ℕ → Label) (entry line : List ℕ) (to s : ℕ) :
 
 module _ {label : ℕ → Label} {entry line : List ℕ} {to s : ℕ} where
   -- With a step behind it, there is room for a blank or the line feed.
-  pub begun-room : Begun label entry line to s → 0 < s → to < mostStep * s
+  pub begun-room : LineBegun label entry line to s → 0 < s → to < mostStep * s
   begun-room (nothing e f k) l = absurd (omega arith)
   begun-room (some t r k) l = r
 
@@ -51,17 +51,17 @@ module _ {label : ℕ → Label} {entry line : List ℕ} {to s : ℕ} where
   write-same e f r = rw (e, f) r
 
   -- Before the first record nothing has to be written.
-  pub write-first : Begun label entry line to s → s ≤ 0 → MayWrite label entry line to s
+  pub write-first : LineBegun label entry line to s → s ≤ 0 → MayWrite label entry line to s
   write-first (nothing e f k) l = first e f k
   write-first (some t r k) l = absurd (omega (arith, steps-some t))
 
   -- Before each other record there is a blank.
-  pub write-next : {exit : List ℕ} {after : ℕ} → Begun label entry line to s → 0 < s → Adds (32 ∷ []) line to exit after → MayWrite label entry exit after s
+  pub write-next : {exit : List ℕ} {after : ℕ} → LineBegun label entry line to s → 0 < s → Adds (32 ∷ []) line to exit after → MayWrite label entry exit after s
   write-next (nothing e f k) l a = absurd (omega arith)
   write-next (some t r k) l a = next t (a .text) (omega (arith, a .ends)) (kept-more k a)
 
   -- With the record of step s one step more is written.
-  pub begun-more : {exit : List ℕ} {after : ℕ} → MayWrite label entry line to s → AddsRecord (label s) line to exit after → Begun label entry exit after (s + 1)
+  pub begun-more : {exit : List ℕ} {after : ℕ} → MayWrite label entry line to s → AddsRecord (label s) line to exit after → LineBegun label entry exit after (s + 1)
   begun-more {exit} {after} (first e f k) a = some text (omega (arith, a .adds .ends, a .most)) (kept-more k (a .adds))
     where
       alone : a .part ≡ take after exit
@@ -78,11 +78,11 @@ module _ {label : ℕ → Label} {entry line : List ℕ} {to s : ℕ} where
       text = rw add-one (subst (StepsText label (suc s)) behind (more t (a .is)))
 
   -- The line feed behind the records of all steps makes the line.
-  pub line-of : {exit : List ℕ} {after : ℕ} → Begun label entry line to s → 0 < s → Adds (10 ∷ []) line to exit after → LineText label s (take after exit)
+  pub line-of : {exit : List ℕ} {after : ℕ} → LineBegun label entry line to s → 0 < s → Adds (10 ∷ []) line to exit after → LineText label s (take after exit)
   line-of (nothing e f k) l a = absurd (omega arith)
   line-of (some t r k) l a = record { records = take to line; records-are = t; written = a .text }
 
   -- Behind the line nothing has changed.
-  pub line-kept : {p exit : List ℕ} {after : ℕ} → Begun label entry line to s → Adds p line to exit after → Kept entry exit after
+  pub line-kept : {p exit : List ℕ} {after : ℕ} → LineBegun label entry line to s → Adds p line to exit after → Kept entry exit after
   line-kept (nothing e f k) a = kept-more k a
   line-kept (some t r k) a = kept-more k a

@@ -17,20 +17,20 @@ use Rattle.order.proofs.WalkLaws.{precedes-by, first-of-all}
 use Rattle.tournament.proofs.Playing.{root-least, root-leaf}
 
 -- A list j whose next label comes next, and which a key names.
-record Named (t : Lists) (pos : ℕ → ℕ) (key j : ℕ) : Type 0 where
+record NamesList (t : Lists) (pos : ℕ → ℕ) (key j : ℕ) : Type 0 where
   comes : Comes t pos j
   list : j ≡ key % mostTags
   start : key / mostTags ≡ startOf t (next pos j)
 
 module _ (t : Lists) (pos : ℕ → ℕ) (xs : List ℕ) (key : ℕ) (ascend : Ascend t) (few : t .many ≤ mostTags) (keys : Keys t pos xs) (root : Root (t .many) xs key) where
   -- A least key that is not past all keys names the list that has the label that comes next.
-  named : key < past → (j : ℕ) × Named t pos key j
+  named : key < past → (j : ℕ) × NamesList t pos key j
   named h = ⊎-elim (λ e. absurd (omega (arith, root .none (sym e)))) (λ some. go (root .some some) (root-leaf (t .many) xs (keys .tree) some)) (eq-or-lt-of-le {n = 0} {m = t .many} (omega arith))
     where
-      go : key ≡ at xs 1 → (j : ℕ) × (j < t .many) × (at xs (t .many + j) ≡ at xs 1) → (j : ℕ) × Named t pos key j
+      go : key ≡ at xs 1 → (j : ℕ) × (j < t .many) × (at xs (t .many + j) ≡ at xs 1) → (j : ℕ) × NamesList t pos key j
       go top (j, l, e) = here (decLe (t .count j) (pos j))
         where
-          here : Dec (t .count j ≤ pos j) → (j : ℕ) × Named t pos key j
+          here : Dec (t .count j ≤ pos j) → (j : ℕ) × NamesList t pos key j
           here (yes k) = absurd (omega (arith, keys .key j l .none k))
           here (no d) =
               let room : pos j < t .count j = lt-of-not-le d in

@@ -11,7 +11,7 @@ use Rattle.meaning.specs.Names.{Sooner}
 use Rattle.meaning.specs.Day.{tags, count, labels, offset, bodyAt, nameField, RowRight}
 use Rattle.meaning.specs.Answers.{Decides}
 use Rattle.meaning.proofs.Decide.{decides-as}
-use Rattle.filled.specs.Fields.{Named}
+use Rattle.filled.specs.Fields.{HasName}
 use Rattle.contents.proofs.Placing.{labels-suc}
 use Rattle.table.specs.Tests.{InOrder, AllRows}
 
@@ -31,11 +31,11 @@ later-in-order b r a some d = decides-as to (λ h. h (r - 1) (suc-pred r some)) 
     to h q e = let f : r - 1 ≡ q = omega arith in subst (λ (k : ℕ). Sooner (nameField b k) (nameField b r)) f h
 
 -- A row with a name and in order is right if its body begins where it has to.
-pub row-as : (b : List ℕ) (r : ℕ) (a : Bool) → Named (nameField b r) → InOrder b r → Decides (offset b r ≡ bodyAt b r) a → Decides (RowRight b r) a
+pub row-as : (b : List ℕ) (r : ℕ) (a : Bool) → HasName (nameField b r) → InOrder b r → Decides (offset b r ≡ bodyAt b r) a → Decides (RowRight b r) a
 row-as b r a name order = decides-as (λ e. record { name = name .name; is-name = name .is-name; here = name .here; order = order; place = e }) (λ h. h .place)
 
 -- The name of a row that is right.
-pub row-named : (b : List ℕ) (r : ℕ) → RowRight b r → Named (nameField b r)
+pub row-named : (b : List ℕ) (r : ℕ) → RowRight b r → HasName (nameField b r)
 row-named b r h = record { name = h .name; is-name = h .is-name; here = h .here }
 
 -- The loop over the rows: the first r are right, and have n labels together, which is no more than r counts of 32 bits can say.

@@ -11,7 +11,7 @@ use Rattle.meaning.specs.Refusals.{Clear, Verdict, clear, given}
 use Rattle.meaning.proofs.Laws.Table.{Rising, zero-clear}
 use Rattle.contents.specs.Parts.{Placed}
 use Rattle.contents.proofs.Placing.{placed-unless}
-use Rattle.table.specs.Parts.{contentsTable}
+use Rattle.table.specs.ContentsTable.{contentsTable}
 
 module _ (b : List ℕ) where
   -- The index is too short.

@@ -1,3 +1,3 @@
 -- The refusals that are about the table of contents, and what their small tests are about.
-pub mod Parts
+pub mod ContentsTable
 pub mod Tests

@@ -6,7 +6,7 @@ ghost use Rattle.meaning.specs.Limits.{mostTags};
 ghost use Rattle.meaning.specs.Day.{tags, rowAt, offset, bodyAt, RowRight};
 ghost use Rattle.meaning.specs.Refusals.{Verdict};
 ghost use Rattle.meaning.specs.Answers.{Decides};
-ghost use Rattle.table.specs.Parts.{contentsTable};
+ghost use Rattle.table.specs.ContentsTable.{contentsTable};
 ghost use Rattle.table.specs.Tests.{InOrder, AllRows};
 use contents::rows::count_of;
 use contents::rows::name_field;

@@ -1,4 +1,4 @@
--- `lines::write_line` meets its contract. The loop's invariant is `Begun`; the measure is how many steps are left.
+-- `lines::write_line` meets its contract. The loop's invariant is `LineBegun`; the measure is how many steps are left.
 use Prim.Native.Nat.{ℕ, _+_, _-_, _≤_, _<_}
 use native.Mathlib.Nat.{le-antisymm}
 use native.Mathlib.Omega.{arith}
@@ -13,7 +13,7 @@ use Rattle.meaning.specs.Day.{labelAt}
 use Rattle.meaning.specs.Bytes.{at}
 use Rattle.meaning.specs.Printing.{LineText}
 use Rattle.lines.specs.Adding.{Adds, AddsRecord}
-use Rattle.lines.proofs.StepLaws.{Begun, nothing, MayWrite, begun-room, write-room, write-same, write-first, write-next, begun-more, line-of, line-kept}
+use Rattle.lines.proofs.StepLaws.{LineBegun, nothing, MayWrite, begun-room, write-room, write-same, write-first, write-next, begun-more, line-of, line-kept}
 use Rattle.lines.proofs.write_line.Statement.{statement}
 use Rattle.lines.proofs.write_line.Tie as tie
 
@@ -22,7 +22,7 @@ abbrev labelsOf : List ℕ → List ℕ → List ℕ → ℕ → ℕ → Label
 labelsOf index offsets rows from s = labelAt index (at offsets s) (at rows (from + s))
 
 abbrev Inv-loop : tie.InvT-loop
-Inv-loop index k offsets rows from line₀ to₀ s₀ line to s = (s ≤ k) × Begun (labelsOf index offsets rows from) line₀ line to s
+Inv-loop index k offsets rows from line₀ to₀ s₀ line to s = (s ≤ k) × LineBegun (labelsOf index offsets rows from) line₀ line to s
 
 abbrev μ-loop : tie.MeasureT-loop
 μ-loop index k offsets rows from line₀ to₀ s₀ line to s = k - s
@@ -49,7 +49,7 @@ ready j =
     (λ w. write-same (w .1) (w .2) (write-first begun (omega (arith, w .0 .left))))
     (j .if1 .came)
   where
-    begun : Begun (labels (at-loop j)) (start (at-loop j) .args .line .now) (at-loop j .loop .line) (at-loop j .loop .to) (at-loop j .loop .s)
+    begun : LineBegun (labels (at-loop j)) (start (at-loop j) .args .line .now) (at-loop j .loop .line) (at-loop j .loop .to) (at-loop j .loop .s)
     begun = at-loop j .loop .inv .1
 
 -- Behind the loop all steps are written, of which there is at least one.

@@ -6,14 +6,14 @@ use mathlib.Core.List.{List}
 use Rattle.meaning.specs.Day.{offset, nameField}
 use Rattle.meaning.specs.Answers.{Decides, fails}
 use Rattle.meaning.proofs.Decide.{if-not-true, if-not-false}
-use Rattle.filled.specs.Fields.{Named}
+use Rattle.filled.specs.Fields.{HasName}
 use Rattle.table.proofs.RowLaws.{row-as, row-named}
 use Rattle.table.proofs.row_right.Statement.{statement}
 use Rattle.table.proofs.row_right.Tie as tie
 
 -- Whether a name stands in row r's field.
-name-decides : (c : tie.After-has-name) → Decides (Named (nameField (c .before .before .before .args .index .now) (c .before .before .before .args .r))) (c .has-name .result)
-name-decides c = subst (λ (f : List ℕ). Decides (Named f) (c .has-name .result)) (c .before .name-field .ensures .0) (c .has-name .ensures)
+name-decides : (c : tie.After-has-name) → Decides (HasName (nameField (c .before .before .before .args .index .now) (c .before .before .before .args .r))) (c .has-name .result)
+name-decides c = subst (λ (f : List ℕ). Decides (HasName f) (c .has-name .result)) (c .before .name-field .ensures .0) (c .has-name .ensures)
 
 name-field-requires : tie.Need-name-field-requires
 name-field-requires c κs = search needs

@@ -24,14 +24,14 @@ places a = a .before .before .before .args .places .now
 -- The list that is named has the label that comes next.
 found : (a : tie.After-list-of) → Comes (listsOf (bytes a)) (cursor (bytes a) (places a)) (a .list-of .result)
 found a =
-    subst (λ (r : ℕ). Comes (listsOf (bytes a)) (cursor (bytes a) (places a)) r) (sym (a .list-of .ensures .0)) (a .before .before .before .pre .2 .some (a .before .if1 .left))
+    subst (λ (r : ℕ). Comes (listsOf (bytes a)) (cursor (bytes a) (places a)) r) (sym (a .list-of .ensures .0)) (a .before .before .before .pre .2 .some (omega (arith, a .before .if1 .left)))
 
 -- Its place is that label's.
 here : (a : tie.After-list-of) → AtLabel (bytes a) (a .list-of .result) (at (places a) (a .list-of .result))
 here a = a .before .before .before .pre .1 .each (a .list-of .result) (found a .waits .holds .list-lt)
 
 returns : tie.Need-returns
-returns c = c .before .before .pre .2 .none (c .if1 .taken)
+returns c = c .before .before .pre .2 .none (omega (arith, c .if1 .taken))
 
 list-of-requires : tie.Need-list-of-requires
 list-of-requires c κs = search needs

@@ -1,9 +1,6 @@
 -- `question::name_of` meets its contract: the part from the start to the start and length is the length long.
 use borrow.Author.Needs.{needs}
-use Prim.Native.Nat.{ℕ}
-use mathlib.Core.Path.{ap}
-use native.Mathlib.Nat.{add-sub-cancel-left}
-use lib.ListN.{take, drop}
+use Rattle.meaning.proofs.Laws.Bytes.{part-from}
 use Rattle.question.proofs.name_of.Statement.{statement}
 use Rattle.question.proofs.name_of.Tie as tie
 
@@ -28,7 +25,7 @@ part-result-end c = search needs
 returns : tie.Need-returns
 returns c =
     let a = c .before .before .before .args in
-    ap (λ (j : ℕ). take j (drop (a .s .start) (a .text .now))) (add-sub-cancel-left (a .s .start) (a .s .length))
+    part-from (a .text .now) (a .s .start) (a .s .length)
 
 pub name-of-spec : {M : Type 1} → statement M
 name-of-spec =

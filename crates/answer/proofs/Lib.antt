@@ -1,4 +1,2 @@
--- From the engine's page to what the calls promise.
-pub mod Ending
-pub mod Responding
+-- What the calls give on the marked cases.
 pub mod Tied

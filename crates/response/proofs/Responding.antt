@@ -22,8 +22,8 @@ use Rattle.question.specs.Promise as reading
 use Rattle.cursors.specs.Plan.{planOf}
 use Rattle.plan.specs.Drawn.{Asks, Draws}
 use Rattle.pages.specs.RowParts.{PartOf}
-use Rattle.answer.specs.Response.{Responds}
-use Rattle.answer.proofs.Ending.{answer-page, evidence-page}
+use Rattle.response.specs.Response.{Responds}
+use Rattle.response.proofs.Ending.{answer-page, evidence-page}
 
 -- The result of a refusal.
 abbrev pub refusal : ℕ → Page

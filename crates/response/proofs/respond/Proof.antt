@@ -1,4 +1,4 @@
--- `answer::respond` meets its contract: each part's promise is a part of the call's.
+-- `response::respond` meets its contract: each part's promise is a part of the call's.
 use Prim.Native.Nat.{ℕ, _+_, _≤_, _<_}
 use native.Mathlib.Omega.{arith}
 use mathlib.Core.List.{List}
@@ -8,10 +8,10 @@ use Rattle.meaning.proofs.Laws.Step.{steps-some}
 use Rattle.cursors.specs.Plan.{Planned}
 use Rattle.cursors.proofs.SettleTurns.{ret-of}
 use Rattle.plan.proofs.Drawing.{drawn-planned}
-use Rattle.answer.proofs.Responding.{Heard, heard, refuse-index, refuse-text, give-answer, give-evidence}
+use Rattle.response.proofs.Responding.{Heard, heard, refuse-index, refuse-text, give-answer, give-evidence}
 use borrow.Author.Needs.{needs}
-use Rattle.answer.proofs.respond.Statement.{statement}
-use Rattle.answer.proofs.respond.Tie as tie
+use Rattle.response.proofs.respond.Statement.{statement}
+use Rattle.response.proofs.respond.Tie as tie
 
 -- Where the call began, from where the index was found lawful; what was found of the index and of the question.
 abbrev start : tie.Else1 → tie.Start

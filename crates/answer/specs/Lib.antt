@@ -1,2 +1,0 @@
--- What the two calls promise.
-pub mod Response

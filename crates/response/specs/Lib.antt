@@ -1,0 +1,2 @@
+-- What the response promises.
+pub mod Response

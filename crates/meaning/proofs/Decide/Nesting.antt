@@ -1,5 +1,5 @@
 -- Whether so many labels lie each inside the one before, as a test that antt computes. It keeps the labels with which n of them begin,
--- and finds from these the labels with which n + 1 begin: so it takes time by the number of labels and not by that of sequences.
+-- and finds among these the labels with which n + 1 begin: so it takes time by the number of labels and not by that of sequences.
 use Prim.Native.Nat.{ℕ, zero, suc, _<_}
 use native.Mathlib.Omega.{arith}
 use mathlib.Core.Path.{_≡_, refl, sym, subst}
@@ -21,19 +21,29 @@ insideB a b = elim (ltb (b .start) (a .start)) [ true ↦ ltb (a .end) (b .end) 
 pub inside-decides : (a b : Label) → Decides (Inside a b) (insideB a b)
 inside-decides a b = decides-as (λ h. record { after = h .0; before = h .1 }) (λ h. (h .after, h .before)) (both-decides (lt-decides (b .start) (a .start)) (lt-decides (a .end) (b .end)))
 
--- The entries of xs that have an entry of ys inside.
-unfoldable pub around : List Entry → List Entry → List Entry
-around ys xs = keep (λ x. among (λ y. insideB (labelIn y) (labelIn x)) ys) xs
+-- The entries of es that have an entry of es inside.
+unfoldable pub around : List Entry → List Entry
+around es = keep (λ x. among (λ y. insideB (labelIn y) (labelIn x)) es) es
 
 -- The entries with which n + 1 labels that lie each inside the one before begin. Those of n are computed once, as an argument.
 unfoldable pub heads : List Entry → ℕ → List Entry
 heads es zero = es
-heads es (suc n) = around (heads es n) es
+heads es (suc n) = around (heads es n)
 
 -- n + 1 labels that lie each inside the one before, the first at a place.
 data Chain (t : Lists) : ℕ → Place → Type 0 where
   one : {x : Place} → Holds t x → Chain t zero x
   more : {n : ℕ} {x y : Place} → Holds t x → Inside (labelOf t y) (labelOf t x) → Chain t n y → Chain t (suc n) x
+
+-- The place with which a chain begins has a label.
+chain-holds : {t : Lists} {n : ℕ} {x : Place} → Chain t n x → Holds t x
+chain-holds (one h) = h
+chain-holds (more h i c) = h
+
+-- A chain without its last label.
+shorter : {t : Lists} {n : ℕ} {x : Place} → Chain t (suc n) x → Chain t n x
+shorter {n = zero} (more h i c) = one h
+shorter {n = suc n} (more h i c) = more h i (shorter c)
 
 -- The entry has an entry of ys inside.
 abbrev Around : List Entry → Entry → Type 0
@@ -54,17 +64,17 @@ heads-found : (t : Lists) (n : ℕ) (P : Entry → Type 0) → Among P (heads (t
 unfolding heads around
 heads-found t zero P h = let q = table-found t P h in record { place = q .place; chain = one (q .holds); has = q .has }
 heads-found t (suc n) P h =
-    let q = table-found t (λ x. Around (heads (table t) n) x × P x) (kept (around-decides (heads (table t) n)) P (table t) h) in
+    let q = heads-found t n (λ x. Around (heads (table t) n) x × P x) (kept (around-decides (heads (table t) n)) P (heads (table t) n) h) in
     let r = heads-found t n (λ y. Inside (labelIn y) (labelOf t (q .place))) (q .has .0) in
-    record { place = q .place; chain = more (q .holds) (r .has) (r .chain); has = q .has .1 }
+    record { place = q .place; chain = more (chain-holds (q .chain)) (r .has) (r .chain); has = q .has .1 }
 
 -- The entry with which a chain begins is in `heads`.
-heads-find : (t : Lists) {n : ℕ} {x : Place} (P : Entry → Type 0) → Chain t n x → P (entryOf t x) → Among P (heads (table t) n)
+heads-find : (t : Lists) (n : ℕ) {x : Place} (P : Entry → Type 0) → Chain t n x → P (entryOf t x) → Among P (heads (table t) n)
 unfolding heads around
-heads-find t {x = x} P (one h) p = table-find t P (record { place = x; holds = h; has = p })
-heads-find t P (more {n = n} {x = x} h i c) p =
-    keeps (around-decides (heads (table t) n)) P (table t)
-    (table-find t (λ z. Around (heads (table t) n) z × P z) (record { place = x; holds = h; has = (heads-find t (λ y. Inside (labelIn y) (labelOf t x)) c i, p) }))
+heads-find t zero {x} P (one h) p = table-find t P (record { place = x; holds = h; has = p })
+heads-find t (suc n) {x} P (more h i c) p =
+    keeps (around-decides (heads (table t) n)) P (heads (table t) n)
+    (heads-find t n (λ z. Around (heads (table t) n) z × P z) (shorter (more h i c)) (heads-find t n (λ y. Inside (labelIn y) (labelOf t x)) c i, p))
 
 -- A sequence of n + 1 nested labels is a chain.
 chain-of : (t : Lists) (n : ℕ) (c : ℕ → Place) → Nested t (suc n) c → Chain t n (c 0)
@@ -110,4 +120,4 @@ nested-decides t n = decides-as to from (member-decides (heads (table t) n))
     to h = let s = sequence-of (heads-found t n (λ x. Unit) h .chain) in (s .places, s .nested)
 
     from : (c : ℕ → Place) × Nested t (suc n) c → Among (λ x. Unit) (heads (table t) n)
-    from h = heads-find t (λ x. Unit) (chain-of t n (h .0) (h .1)) tt
+    from h = heads-find t n (λ x. Unit) (chain-of t n (h .0) (h .1)) tt

@@ -25,7 +25,8 @@ use Rattle.meaning.proofs.Laws.Notation.{one-tree}
 use Rattle.meaning.proofs.Laws.Step.{hook-upward}
 use Rattle.meaning.proofs.Laws.Promise.{lawful-small}
 use Rattle.contents.proofs.FindLaws.{list-within}
-use Rattle.question.specs.Stored.{hookNumber, questionOf, blankStep}
+use Rattle.draft.specs.Drafts.{blankStep}
+use Rattle.path.specs.Stored.{hookNumber}
 use Rattle.question.proofs.StoredSteps.{StoredAs, stored-step}
 use Rattle.cursors.specs.Plan.{hookOf, planOf, Planned}
 use Rattle.plan.specs.Drawn.{Column, Drawn, Asks, Draws}

@@ -6,7 +6,7 @@ use Rattle.meaning.specs.Notation.{Path}
 use Rattle.meaning.proofs.Laws.Notation.{one-tree}
 use Rattle.meaning.proofs.Laws.Table.{given-one, clear-not-given}
 use Rattle.question.specs.declared.Reading.{Reading}
-use Rattle.question.specs.Stored.{questionOf, blankQuestion}
+use Rattle.question.specs.Questions.{questionOf, blankQuestion}
 use Rattle.question.specs.Promise.{readTable, ReadAs, refused, read}
 
 -- The reading that refuses a text by the number n.

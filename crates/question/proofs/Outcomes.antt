@@ -9,9 +9,10 @@ use Rattle.meaning.specs.declared.Step.{Step}
 use Rattle.meaning.specs.Limits.{mostText, mostSteps, mostDepth}
 use Rattle.meaning.specs.Notation.{Follows, steps, depth, TooLong, NotFollowing, TooLarge}
 use Rattle.meaning.proofs.Laws.Notation.{one-tree}
-use Rattle.question.specs.declared.Draft.{Draft}
+use Rattle.draft.specs.declared.Draft.{Draft}
+use Rattle.draft.specs.Drafts.{filledUp}
 use Rattle.question.specs.declared.Reading.{Reading}
-use Rattle.question.specs.Stored.{filledUp, blankQuestion}
+use Rattle.question.specs.Questions.{blankQuestion}
 use Rattle.question.specs.Promise.{ReadAs, refused, read}
 use Rattle.question.proofs.Texts.{HoldsTree}
 

@@ -10,8 +10,10 @@ use Rattle.meaning.specs.Names.{Name}
 use Rattle.meaning.specs.Notation as notation
 use Rattle.meaning.specs.Notation.{Path, path, After, finish, bracket, next, Hook, nothing, from, write, writeAfter, Named, NamedAfter, Follows, steps, list, listAfter}
 use Rattle.meaning.specs.Picks.{stepAt}
-use Rattle.question.specs.Stored.{hookNumber, size, stored, storedAfter, blankStep, questionOf}
-use Rattle.question.proofs.Sizes.{stored-long, cut-byte, cut-text, cut-path}
+use Rattle.draft.specs.Drafts.{blankStep}
+use Rattle.path.specs.Stored.{hookNumber, size, stored, storedAfter}
+use Rattle.path.proofs.Sizes.{stored-long, cut-byte, cut-text, cut-path}
+use Rattle.question.specs.Questions.{questionOf}
 
 -- The stored step x is the tree's step y: it lies in the text, its part of the text is the name, and it hangs from what y hangs from.
 pub record StoredAs (t : List ℕ) (x : Step) (y : notation.Step) : Type 0 where

@@ -10,12 +10,14 @@ use lib.Seq.{sets, sets-eq, drop-nil}
 use Rattle.meaning.specs.declared.Step.{Step}
 use Rattle.meaning.specs.Limits.{mostText, mostSteps}
 use Rattle.meaning.specs.Notation.{Path, path, nothing, from, write, Follows, steps, depth, lastStep, returnedStep, NotFollowing}
-use Rattle.question.specs.declared.Draft.{Draft}
-use Rattle.question.specs.Stored.{size, stored, blankStep, filledUp}
-use Rattle.question.specs.Reader.{fresh, grown, walked, MayRead, ReachPath, PathRead, whole, torn}
-use Rattle.question.proofs.Sizes.{write-before, stored-long, cut-path}
-use Rattle.question.proofs.Closing.{not-both}
-use Rattle.question.proofs.Reaching.{one-path}
+use Rattle.draft.specs.declared.Draft.{Draft}
+use Rattle.draft.specs.Drafts.{blankStep, filledUp, fresh, grown}
+use Rattle.draft.specs.Steps.{MayRead}
+use Rattle.draft.proofs.Closing.{not-both}
+use Rattle.path.specs.Stored.{size, stored}
+use Rattle.path.specs.Reach.{walked, ReachPath, PathRead, whole, torn}
+use Rattle.path.proofs.Sizes.{write-before, stored-long, cut-path}
+use Rattle.path.proofs.Reaching.{one-path}
 
 -- The end of a list of equal entries.
 drop-replicate : (n m : ℕ) (x : Step) → drop n (replicate m x) ≡ replicate (m - n) x
@@ -58,11 +60,6 @@ fresh-sets xs h = sets-blank mostSteps xs h
 fresh-sound : fresh .broken ≡ false
 unfolding fresh
 fresh-sound = refl
-
--- A draft with blank entries and nothing else is the one before the first byte.
-pub as-fresh : {b : List Step} → b ≡ filledUp [] → record { steps = b; count = 0; deepest = 0; at = 0; last = 0; broken = false } ≡ fresh
-unfolding fresh
-as-fresh e = ap (λ (b : List Step). record { steps = b; count = 0; deepest = 0; at = 0; last = 0; broken = false }) e
 
 -- It is ready for a first step that hangs from nothing.
 pub fresh-ready : {t : List ℕ} {q : Draft} → q ≡ fresh → length t ≤ mostText → MayRead t 255 0 q

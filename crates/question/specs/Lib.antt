@@ -1,4 +1,3 @@
--- What reading a question promises, and what the reader's own functions promise to each other.
-pub mod Stored
+-- What reading a question promises.
+pub mod Questions
 pub mod Promise
-pub mod Reader

@@ -5,7 +5,7 @@ use mathlib.Core.List.{List}
 use Rattle.meaning.specs.Notation.{Follows, TooLong, NotFollowing, TooLarge}
 use Rattle.meaning.specs.Refusals.{Table, end, row, Given, Clear}
 use Rattle.question.specs.declared.Reading.{Reading}
-use Rattle.question.specs.Stored.{questionOf, blankQuestion}
+use Rattle.question.specs.Questions.{questionOf, blankQuestion}
 
 -- Rows 7 to 9 of the refusal table.
 abbrev pub readTable : List ℕ → Table

@@ -9,7 +9,7 @@ use Rattle.meaning.specs.declared.Question.{Question}
 use Rattle.meaning.specs.Day.{listOf}
 use Rattle.meaning.specs.Notation.{steps}
 use Rattle.meaning.specs.Picks.{stepAt}
-use Rattle.question.specs.Stored.{blankStep}
+use Rattle.draft.specs.Drafts.{blankStep}
 use Rattle.question.proofs.StoredSteps.{StoredAs}
 use Rattle.plan.specs.Drawn.{Asks, Draws}
 use Rattle.plan.proofs.Drawing.{Drawing, draw-begin, draw-on, draw-end, asked-step}

@@ -1,0 +1,6 @@
+-- What is known of drafts and of a step or a `]` at a place of a text, with no mention of code.
+pub mod Bytes
+pub mod OneStep
+pub mod Lengths
+pub mod Closing
+pub mod Fresh

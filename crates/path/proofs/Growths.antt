@@ -6,7 +6,7 @@ use mathlib.Core.List.{List, [], _∷_, _++_}
 use lib.ListN.{length, set, length-append}
 use lib.Seq.{sets}
 use Rattle.meaning.specs.declared.Step.{Step}
-use Rattle.meaning.specs.Notation.{Path, path, After, bracket, from, steps, depth, depthAfter, lastStep, lastAfter}
+use Rattle.meaning.specs.Notation.{Path, path, After, bracket, steps, depth, depthAfter, lastStep, lastAfter}
 use Rattle.draft.specs.declared.Draft.{Draft}
 use Rattle.draft.specs.Drafts.{moved, grown, stepOf, stepped}
 use Rattle.path.specs.Stored.{size, sizeAfter, stored, storedAfter}
@@ -64,9 +64,9 @@ bracket-then q i d p a w =
     let me : ℕ = q .last in
     let k : ℕ = q .count + steps p in
     let e : ℕ = q .at + 1 + size p in
-    let xs : List Step = stored p (from me) (q .count) (q .at + 1) in
+    let xs : List Step = stored p me (q .count) (q .at + 1) in
     let ys : List Step = storedAfter a me k (e + 1) in
-    let many : i .count ≡ k = ap (λ (x : Draft). x .count) w ∙ ap (λ (j : ℕ). q .count + j) (stored-long p (from me) (q .count) (q .at + 1)) in
+    let many : i .count ≡ k = ap (λ (x : Draft). x .count) w ∙ ap (λ (j : ℕ). q .count + j) (stored-long p me (q .count) (q .at + 1)) in
     let place : i .at ≡ e = ap (λ (x : Draft). x .at) w in
     ap₂ (λ (c j : ℕ). grown i (storedAfter a me c (j + 1)) (d + depthAfter a) (j + 1 + sizeAfter a) (lastAfter a me c)) many place
     ∙ ap (λ (x : Draft). grown x ys (d + depthAfter a) (e + 1 + sizeAfter a) (lastAfter a me k)) w

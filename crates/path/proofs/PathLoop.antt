@@ -92,7 +92,7 @@ behind-path : {t : List ℕ} {hang d : ℕ} {q r : Draft} → ReachPath t hang d
 unfolding grown
 behind-path {t} {hang} {d} {q} {r} p =
     let w = p .gives in
-    let many : r .count ≡ q .count + steps (p .tree) = ap (λ (x : Draft). x .count) w ∙ ap (λ (j : ℕ). q .count + j) (stored-long (p .tree) (from hang) (q .count) (q .at)) in
+    let many : r .count ≡ q .count + steps (p .tree) = ap (λ (x : Draft). x .count) w ∙ ap (λ (j : ℕ). q .count + j) (stored-long (p .tree) hang (q .count) (q .at)) in
     let place : r .at ≡ q .at + size (p .tree) = ap (λ (x : Draft). x .at) w in
     record {
       sound = ap (λ (x : Draft). x .broken) w;

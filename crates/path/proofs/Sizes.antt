@@ -5,7 +5,7 @@ use mathlib.Core.Path.{_≡_, refl, sym, ap, ap₂, _∙_}
 use mathlib.Core.List.{List, [], _∷_, _++_, append-assoc}
 use lib.ListN.{length, drop, length-append}
 use lib.Seq.{drop-drop, drop-append-seam}
-use Rattle.meaning.specs.Notation.{Path, path, After, finish, bracket, next, Hook, write, writeAfter, steps, stepsAfter}
+use Rattle.meaning.specs.Notation.{Path, path, After, finish, bracket, next, write, writeAfter, steps, stepsAfter}
 use Rattle.path.specs.Stored.{size, sizeAfter, stored, storedAfter}
 
 mutual
@@ -50,8 +50,8 @@ mutual
   unfolding steps stored
 
   -- As many steps are stored as the path has.
-  pub stored-long : (p : Path) (hook : Hook) (k at : ℕ) → length (stored p hook k at) ≡ steps p
-  stored-long (path n a) hook k at = omega (arith, after-long a k (k + 1) (at + 2 + length n))
+  pub stored-long : (p : Path) (hang k at : ℕ) → length (stored p hang k at) ≡ steps p
+  stored-long (path n a) hang k at = omega (arith, after-long a k (k + 1) (at + 2 + length n))
 
   -- The same of what follows a name.
   pub after-long : (a : After) (me k at : ℕ) → length (storedAfter a me k at) ≡ stepsAfter a

@@ -4,7 +4,7 @@ use mathlib.Core.Path.{_≡_}
 use mathlib.Core.Bool.{true}
 use mathlib.Core.List.{List}
 use lib.ListN.{drop}
-use Rattle.meaning.specs.Notation.{Path, After, from, write, writeAfter, Named, NamedAfter, depth, depthAfter, lastStep, lastAfter}
+use Rattle.meaning.specs.Notation.{Path, After, write, writeAfter, Named, NamedAfter, depth, depthAfter, lastStep, lastAfter}
 use Rattle.meaning.specs.Ends.{Stops}
 use Rattle.draft.specs.declared.Draft.{Draft}
 use Rattle.draft.specs.Drafts.{grown}
@@ -12,7 +12,7 @@ use Rattle.path.specs.Stored.{size, sizeAfter, stored, storedAfter}
 
 -- The draft behind a path that stands where q is, in d brackets, and whose first step hangs from number `hang`.
 abbrev pub walked : Draft → ℕ → ℕ → Path → Draft
-walked q hang d p = grown q (stored p (from hang) (q .count) (q .at)) (d + depth p) (q .at + size p) (lastStep p (q .count))
+walked q hang d p = grown q (stored p hang (q .count) (q .at)) (d + depth p) (q .at + size p) (lastStep p (q .count))
 
 -- The draft behind what follows the name of the step that q has named last.
 abbrev pub followed : Draft → ℕ → After → Draft

@@ -25,8 +25,7 @@ use Rattle.meaning.proofs.Laws.Notation.{one-tree}
 use Rattle.meaning.proofs.Laws.Step.{hook-upward}
 use Rattle.meaning.proofs.Laws.Promise.{lawful-small}
 use Rattle.contents.proofs.FindLaws.{list-within}
-use Rattle.draft.specs.Drafts.{blankStep}
-use Rattle.path.specs.Stored.{hookNumber}
+use Rattle.question.specs.Questions.{hookNumber, kept}
 use Rattle.question.proofs.StoredSteps.{StoredAs, stored-step}
 use Rattle.cursors.specs.Plan.{hookOf, planOf, Planned}
 use Rattle.plan.specs.Drawn.{Column, Drawn, Asks, Draws}
@@ -154,5 +153,5 @@ draws-fixed {b} {k = k} {ret = ret} {h = h} {o = o} {c = c} x y =
     (column-one _ _ _ _ (d .hangs-are) (y .drawn .hangs-are), column-one _ _ _ _ (d .offsets-are) (y .drawn .offsets-are), column-one _ _ _ _ (d .counts-are) (y .drawn .counts-are))
 
 -- A step of a question that was read: where its name stands, that it is the tree's, and what it hangs from.
-pub asked-step : (text : List ℕ) (q : Question) (a : Asks text q) (s : ℕ) → s < steps (a .writes .tree) → StoredAs text (getD (q .steps) s blankStep) (stepAt (a .writes .tree) s)
-asked-step text q a s l = subst (λ (x : Question). StoredAs text (getD (x .steps) s blankStep) (stepAt (a .writes .tree) s)) (sym (a .is)) (stored-step (a .writes) s l)
+pub asked-step : (text : List ℕ) (q : Question) (a : Asks text q) (s : ℕ) → s < steps (a .writes .tree) → StoredAs text (kept q s) (stepAt (a .writes .tree) s)
+asked-step text q a s l = subst (λ (x : Question). StoredAs text (kept x s) (stepAt (a .writes .tree) s)) (sym (a .is)) (stored-step (a .writes) s l)

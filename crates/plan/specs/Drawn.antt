@@ -9,7 +9,7 @@ use Rattle.meaning.specs.Notation.{Path, Follows, steps, returnedStep}
 use Rattle.meaning.specs.Bytes.{at}
 use Rattle.meaning.specs.Picks.{stepAt}
 use Rattle.meaning.specs.declared.Question.{Question}
-use Rattle.path.specs.Stored.{hookNumber}
+use Rattle.question.specs.Questions.{hookNumber}
 use Rattle.question.specs.Questions.{questionOf}
 
 -- An array of 32 numbers, of which the first k are those of f, and 0 stands behind them.

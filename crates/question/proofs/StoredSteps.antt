@@ -11,9 +11,9 @@ use Rattle.meaning.specs.Notation as notation
 use Rattle.meaning.specs.Notation.{Path, path, After, finish, bracket, next, Hook, nothing, from, write, writeAfter, Named, NamedAfter, Follows, steps, list, listAfter}
 use Rattle.meaning.specs.Picks.{stepAt}
 use Rattle.draft.specs.Drafts.{blankStep}
-use Rattle.path.specs.Stored.{hookNumber, size, stored, storedAfter}
+use Rattle.path.specs.Stored.{size, stored, storedAfter}
 use Rattle.path.proofs.Sizes.{stored-long, cut-byte, cut-text, cut-path}
-use Rattle.question.specs.Questions.{questionOf}
+use Rattle.question.specs.Questions.{hookNumber, questionOf, kept}
 
 -- The stored step x is the tree's step y: it lies in the text, its part of the text is the name, and it hangs from what y hangs from.
 pub record StoredAs (t : List ℕ) (x : Step) (y : notation.Step) : Type 0 where
@@ -42,7 +42,7 @@ mutual
   unfolding write list stored
 
   -- The stored steps of a path that stands at `at` are the path's steps.
-  path-stored : (t : List ℕ) (p : Path) (hook : Hook) (k at : ℕ) (s : List ℕ) → Named p → drop at t ≡ write p s → AllStored t (stored p hook k at) (list p hook k)
+  path-stored : (t : List ℕ) (p : Path) (hook : Hook) (k at : ℕ) (s : List ℕ) → Named p → drop at t ≡ write p s → AllStored t (stored p (hookNumber hook) k at) (list p hook k)
   path-stored t (path n a) hook k at s h e =
       let behind : drop (at + 2) t ≡ n ++ writeAfter a s = sym (drop-drop 2 at t) ∙ ap (drop 2) e in
       let first : StoredAs t (record { start = at + 2; length = length n; hangs = hookNumber hook }) (record { name = n; hook = hook }) = record {
@@ -64,9 +64,9 @@ mutual
   after-stored t (next p) me k at s h e = path-stored t p (from me) k at s h e
 
 -- Each step of the question of a text's tree is that step of the tree.
-pub stored-step : {text : List ℕ} (f : Follows text) (s : ℕ) → s < steps (f .tree) → StoredAs text (getD (questionOf (f .tree) .steps) s blankStep) (stepAt (f .tree) s)
+pub stored-step : {text : List ℕ} (f : Follows text) (s : ℕ) → s < steps (f .tree) → StoredAs text (kept (questionOf (f .tree)) s) (stepAt (f .tree) s)
 stored-step {text} f s h =
-    let xs : List Step = stored (f .tree) nothing 0 0 in
-    let short : s < length xs = omega (arith, stored-long (f .tree) nothing 0 0) in
+    let xs : List Step = stored (f .tree) (hookNumber nothing) 0 0 in
+    let short : s < length xs = omega (arith, stored-long (f .tree) (hookNumber nothing) 0 0) in
     let here = stored-at (path-stored text (f .tree) nothing 0 0 [] (f .named) (sym (f .written))) s blankStep (record { name = []; hook = nothing }) short in
     subst (λ (x : Step). StoredAs text x (stepAt (f .tree) s)) (sym (List·getD-append xs _ blankStep s short)) here

@@ -18,6 +18,7 @@ use Rattle.path.specs.Stored.{size, stored}
 use Rattle.path.specs.Reach.{walked, ReachPath, PathRead, whole, torn}
 use Rattle.path.proofs.Sizes.{write-before, stored-long, cut-path}
 use Rattle.path.proofs.Reaching.{one-path}
+use Rattle.question.specs.Questions.{hookNumber}
 
 -- The end of a list of equal entries.
 drop-replicate : (n m : ℕ) (x : Step) → drop n (replicate m x) ≡ replicate (m - n) x
@@ -30,11 +31,6 @@ sets-blank : (m : ℕ) (xs : List Step) → length xs ≤ m → sets (replicate 
 sets-blank m xs h =
     let same : 0 + length xs ≡ length xs = omega arith in
     sets-eq xs (replicate m blankStep) 0 (omega (arith, length-replicate m blankStep)) ∙ ap (λ (l : List Step). xs ++ l) (ap (λ (k : ℕ). drop k (replicate m blankStep)) same ∙ drop-replicate (length xs) m blankStep)
-
--- A path that hangs from nothing is stored as one that hangs from number 255.
-stored-nothing : (p : Path) (k at : ℕ) → stored p (from 255) k at ≡ stored p nothing k at
-unfolding stored
-stored-nothing (path n a) k at = refl
 
 -- The draft before the first byte has no step.
 fresh-count : fresh .count ≡ 0
@@ -80,7 +76,7 @@ pub record HoldsTree (t : List ℕ) (q : Draft) : Type 0 where
   pub count : q .count ≡ steps (writes .tree)
   pub deepest : q .deepest ≡ depth (writes .tree)
   pub last : q .last ≡ returnedStep (writes .tree)
-  pub kept : q .count ≤ mostSteps → q .steps ≡ filledUp (stored (writes .tree) nothing 0 0)
+  pub kept : q .count ≤ mostSteps → q .steps ≡ filledUp (stored (writes .tree) (hookNumber nothing) 0 0)
 
 -- The greater of 0 and a number is the number.
 max-zero : (a d : ℕ) → a ≡ 0 → max a (0 + d) ≡ d
@@ -100,9 +96,9 @@ unfolding grown
 path-held {t} {q} r h =
     let p = r .tree in
     let w = r .gives in
-    let xs : List Step = stored p (from 255) 0 0 in
-    let long : length xs ≡ steps p = stored-long p (from 255) 0 0 in
-    let same : stored p (from 255) (fresh .count) (fresh .at) ≡ xs = ap₂ (stored p (from 255)) fresh-count fresh-at in
+    let xs : List Step = stored p 255 0 0 in
+    let long : length xs ≡ steps p = stored-long p 255 0 0 in
+    let same : stored p 255 (fresh .count) (fresh .at) ≡ xs = ap₂ (stored p 255) fresh-count fresh-at in
     let many : q .count ≡ steps p = ap (λ (x : Draft). x .count) w ∙ ap₂ (λ (c : ℕ) (l : List Step). c + length l) fresh-count same ∙ omega arith in
     record {
       writes = record {
@@ -113,7 +109,7 @@ path-held {t} {q} r h =
       count = many;
       deepest = ap (λ (x : Draft). x .deepest) w ∙ max-zero (fresh .deepest) (depth p) fresh-deepest;
       last = ap (λ (x : Draft). x .last) w ∙ ap (lastStep p) fresh-count;
-      kept = λ k. ap (λ (x : Draft). x .steps) w ∙ ap₂ (sets (fresh .steps)) fresh-count same ∙ fresh-sets xs (omega arith) ∙ ap filledUp (stored-nothing p 0 0);
+      kept = λ k. ap (λ (x : Draft). x .steps) w ∙ ap₂ (sets (fresh .steps)) fresh-count same ∙ fresh-sets xs (omega arith);
     }
 
 -- Where a tree writes the text, a path ends at its end.

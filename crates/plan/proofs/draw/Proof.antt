@@ -9,7 +9,7 @@ use Rattle.meaning.specs.declared.Question.{Question}
 use Rattle.meaning.specs.Day.{listOf}
 use Rattle.meaning.specs.Notation.{steps}
 use Rattle.meaning.specs.Picks.{stepAt}
-use Rattle.draft.specs.Drafts.{blankStep}
+use Rattle.question.specs.Questions.{kept}
 use Rattle.question.proofs.StoredSteps.{StoredAs}
 use Rattle.plan.specs.Drawn.{Asks, Draws}
 use Rattle.plan.proofs.Drawing.{Drawing, draw-begin, draw-on, draw-end, asked-step}
@@ -38,7 +38,7 @@ small i = omega (arith, step-lt i (asks i), asks i .few)
 
 -- What is stored of that step.
 stored : (i : tie.In-loop Inv-loop μ-loop) (a : Asks (start i .args .text .now) (start i .args .t3))
-    → StoredAs (start i .args .text .now) (getD (start i .args .t3 .steps) (i .before .loop .s) blankStep) (stepAt (a .writes .tree) (i .before .loop .s))
+    → StoredAs (start i .args .text .now) (kept (start i .args .t3) (i .before .loop .s)) (stepAt (a .writes .tree) (i .before .loop .s))
 stored i a = asked-step (start i .args .text .now) (start i .args .t3) a (i .before .loop .s) (step-lt i a)
 
 zeros-requires : tie.Need-zeros-requires Inv-loop μ-loop

@@ -36,16 +36,16 @@ use denote.Triple.Clauses.{ensured, lasts}
 use denote.Triple.Walked.{says}
 use borrow.Table.OneValue.{part-in}
 use Rattle.meaning.specs.Limits.{mostNested}
-use Rattle.day.specs.declared.open.Open.{Open}
-use Rattle.day.specs.declared.sweep.State.{State}
-use Rattle.day.specs.Entries.{blank, Taken}
+use Rattle.open.specs.declared.Open.{Open}
+use Rattle.open.specs.Entries.{blank, Taken}
+use Rattle.open.proofs.Open as T
+use Rattle.open.proofs.Open.Laws as T′
+use Rattle.open.proofs.pop as pop
+use Rattle.open.proofs.push as push
+use Rattle.turn.specs.declared.State.{State}
+use Rattle.turn.proofs.State as S
+use Rattle.turn.proofs.State.Laws as S′
 use Rattle.day.proofs.Rounds.{reread}
-use Rattle.day.proofs.open.Open as T
-use Rattle.day.proofs.open.Open.Laws as T′
-use Rattle.day.proofs.sweep.State as S
-use Rattle.day.proofs.sweep.State.Laws as S′
-use Rattle.day.proofs.open.pop as pop
-use Rattle.day.proofs.open.push as push
 
 -- The tournament's and the cursors' types.
 abbrev pub TR : RattleType

@@ -12,13 +12,13 @@ use Rattle.meaning.specs.Limits.{mostNested}
 use Rattle.meaning.specs.Answers.{Decides}
 use Rattle.meaning.specs.Day.{WrongNesting}
 use Rattle.meaning.specs.Labels.{Place}
-use Rattle.day.specs.declared.open.Open.{Open}
-use Rattle.day.specs.declared.sweep.State.{State}
-use Rattle.day.specs.Entries.{entry}
-use Rattle.day.specs.Sweep.{Judged, Turned}
+use Rattle.open.specs.declared.Open.{Open}
+use Rattle.open.specs.Entries.{entry}
+use Rattle.turn.specs.declared.State.{State}
+use Rattle.turn.specs.Sweep.{Judged, Turned}
+use Rattle.turn.proofs.State as S
+use Rattle.turn.proofs.State.Laws as S′
 use Rattle.day.proofs.Rounds.{AtTurn, Round, reread, weight, round-less, round-push, round-pop}
-use Rattle.day.proofs.sweep.State as S
-use Rattle.day.proofs.sweep.State.Laws as S′
 
 -- A test that holds is true.
 pub truth : (y : Bool) → Holds y → y ≡ true

@@ -1,4 +1,4 @@
--- The loop of `sweep`: what holds between turns of the table, the lists' cursors and the state, and what gets less.
+-- The loop of `turns`: how it begins, what holds between turns of the table, the lists' cursors and the state, and what gets less.
 use Prim.Native.Nat.{ℕ, suc, _+_, _*_, _<_}
 use native.Mathlib.Nat.{ne-of-lt}
 use native.Mathlib.Omega.{arith}
@@ -14,13 +14,14 @@ use Rattle.meaning.specs.Answers.{Decides}
 use Rattle.meaning.specs.Day.{tags, listsOf}
 use Rattle.order.specs.Walk.{next}
 use Rattle.order.specs.Standing.{cursor, Names}
-use Rattle.order.proofs.WalkLaws.{below-or}
+use Rattle.order.proofs.WalkLaws.{below-or, none-seen}
 use Rattle.order.proofs.Left.{left, left-falls}
-use Rattle.day.specs.declared.open.Open.{Open}
-use Rattle.day.specs.declared.sweep.State.{State}
-use Rattle.day.specs.Entries.{blank, entry}
-use Rattle.day.specs.Sweep.{Swept, pushed, Same, Innermost, BeforeTurn, Fresh, Judged, over, closing, opening}
-use Rattle.day.proofs.Sweeping.{pushed-below, pushed-top, sweep-begin}
+use Rattle.open.specs.declared.Open.{Open}
+use Rattle.open.specs.Entries.{blank, entry}
+use Rattle.turn.specs.declared.State.{State}
+use Rattle.turn.specs.Sweep.{Swept, pushed, Same, Innermost, BeforeTurn, Judged, over, closing, opening}
+use Rattle.turn.proofs.Sweeping.{pushed-below, pushed-top}
+use Rattle.day.specs.FirstTurn.{Fresh}
 
 -- The open records stand in the table.
 abbrev pub InTable : Lists → (ℕ → Place) → List Open → ℕ → Type 0
@@ -57,6 +58,16 @@ lighter true false n n′ e h = omega arith
 lighter true true n n′ e (inl f) = absurd (true≢false f)
 lighter true true n n′ e (inr l) = omega arith
 lighter false g′ n n′ e h = absurd (false≢true e)
+
+-- At the beginning nothing is seen.
+sweep-begin : (t : Lists) (pos : ℕ → ℕ) (stack : ℕ → Place) → ((r : ℕ) → r < t .many → pos r ≡ 0) → Swept t pos stack 0
+sweep-begin t pos stack z = record {
+  fine = λ x y s w d. absurd (none-seen t pos z x s);
+  shallow = λ c ch s. none-seen t pos z (c 0) (s 0 (omega arith));
+  held = λ k l. absurd (omega arith);
+  nest = λ j k l m. absurd (omega arith);
+  closed = λ x y s w. absurd (none-seen t pos z x s);
+}
 
 -- The first turn begins.
 pub round-begin : (b : List ℕ) (m : ℕ) (tree places : List ℕ) (table : List Open) (s : State) → Fresh b m tree places s → Round (s .going) b m tree places table s

@@ -1,4 +1,3 @@
 -- What the parts of the check promise to each other.
 pub mod ListsTable
-pub mod Entries
-pub mod Sweep
+pub mod FirstTurn

@@ -1,5 +1,4 @@
 // The check of a day index.
-mod open;
 mod sweep;
 
 ghost use Rattle.meaning.specs.Promises.{Checked};

@@ -4,7 +4,7 @@ use mathlib.Core.Logic.{inl, inr}
 use mathlib.Core.List.{List}
 use Prim.Native.Nat.{ℕ}
 use borrow.Author.Needs.{needs}
-use Rattle.meaning.specs.Day.{WrongLists, WrongNesting}
+use Rattle.meaning.specs.Day.{WrongLists}
 use Rattle.meaning.specs.Refusals.{Clear}
 use Rattle.meaning.proofs.Decide.{if-true, if-false}
 use Rattle.table.specs.ContentsTable.{contentsTable}

@@ -23,18 +23,18 @@ use denote.Triple.Table.{entered, cited}
 use denote.Triple.Walked.{needs, goes-none, goes-none-slice, goes-ref, Walks, walked, walk-meets}
 use denote.Exit.{yes}
 use denote.Signature.{plain}
-use Rattle.day.specs.Sweep.{Fresh}
-use Rattle.day.proofs.sweep.State as S
-use Rattle.day.proofs.sweep.State.Laws as S′
-use Rattle.day.proofs.sweep.judge.Symbol as judge-def
-use Rattle.day.proofs.sweep.judge.Symbol.{name as #sweep·judge}
-use Rattle.day.proofs.sweep.judge.Met as judge-thm
-use Rattle.day.proofs.open.pop.Symbol as pop-def
-use Rattle.day.proofs.open.pop.Symbol.{name as #open·pop}
-use Rattle.day.proofs.open.pop.Met as pop-thm
-use Rattle.day.proofs.open.push.Symbol as push-def
-use Rattle.day.proofs.open.push.Symbol.{name as #open·push}
-use Rattle.day.proofs.open.push.Met as push-thm
+use Rattle.open.proofs.pop.Symbol as pop-def
+use Rattle.open.proofs.pop.Symbol.{name as #open·pop}
+use Rattle.open.proofs.pop.Met as pop-thm
+use Rattle.open.proofs.push.Symbol as push-def
+use Rattle.open.proofs.push.Symbol.{name as #open·push}
+use Rattle.open.proofs.push.Met as push-thm
+use Rattle.turn.proofs.State as S
+use Rattle.turn.proofs.State.Laws as S′
+use Rattle.turn.proofs.judge.Symbol as judge-def
+use Rattle.turn.proofs.judge.Symbol.{name as #turn·judge}
+use Rattle.turn.proofs.judge.Met as judge-thm
+use Rattle.day.specs.FirstTurn.{Fresh}
 use Rattle.day.proofs.sweep.turns.Key.{name as #sweep·turns}
 use Rattle.day.proofs.sweep.turns as turns
 use Rattle.day.proofs.sweep.turns.Statement as stated
@@ -46,7 +46,7 @@ mod Passed
 mod Walk
 
 module _ {M : Type 1} (𝓤 : URA M) (H : Heap 𝓤) (A : Atoms 𝓤) (W : Given 𝓤 H A) (mem : Memory → SProp 𝓤) (run : Routine → Fun 𝓤) (𝓣 : Tables 𝓤 H)
-    (known-judge : Triple 𝓤 (𝓣 .C #sweep·judge) (Judge 𝓤 H A mem run)) (known-pop : Triple 𝓤 (𝓣 .C #open·pop) (Pop 𝓤 H A mem run)) (known-push : Triple 𝓤 (𝓣 .C #open·push) (Push 𝓤 H A mem run)) where
+    (known-judge : Triple 𝓤 (𝓣 .C #turn·judge) (Judge 𝓤 H A mem run)) (known-pop : Triple 𝓤 (𝓣 .C #open·pop) (Pop 𝓤 H A mem run)) (known-push : Triple 𝓤 (𝓣 .C #open·push) (Push 𝓤 H A mem run)) where
   turns-walks : Walks 𝓤 H A turns.ended stayed (WpFn 𝓤 H (𝓣 .C) (𝓣 .Λ) code.function) (turns.clauses 𝓤 H A mem run)
   turns-walks = walked 𝓤 H A turns.ended stayed (turns.clauses 𝓤 H A mem run) (WpFn 𝓤 H (𝓣 .C) (𝓣 .Λ) code.function)
       (λ κs. (slice-vals, (uint-vals w64, (ptr-vals, (ptr-vals, (LL.vals S.the-type S′.the-laws, tt))))))
@@ -88,6 +88,6 @@ turns-spec 𝓤 H 𝓜 𝓖 𝓡 =
     entered 𝓤 H (tripleOf 𝓤 H (𝓖 .A) turns.signature (turns.spec 𝓤 H (𝓖 .A) (𝓜 .mem) (𝓡 .run)))
     (tables 𝓤 H 𝓜 𝓡 code.env .C) (tables 𝓤 H 𝓜 𝓡 code.env .Λ) #sweep·turns code.function (code.unfolded 𝓤 H 𝓜 𝓡)
     (turns-meets 𝓤 H (𝓖 .A) (givenOf 𝓤 H 𝓜 𝓖) (𝓜 .mem) (𝓡 .run) (tablesOf 𝓤 H 𝓜 (tables 𝓤 H 𝓜 𝓡 code.env))
-    (cited 𝓤 H (Judge 𝓤 H (𝓖 .A) (𝓜 .mem) (𝓡 .run)) 𝓜 𝓡 code.env #sweep·judge judge-def.routine code.calls-day·sweep·judge (judge-thm.met 𝓤 H 𝓜 𝓖 𝓡))
-    (cited 𝓤 H (Pop 𝓤 H (𝓖 .A) (𝓜 .mem) (𝓡 .run)) 𝓜 𝓡 code.env #open·pop pop-def.routine code.calls-day·open·pop (pop-thm.met 𝓤 H 𝓜 𝓖 𝓡))
-    (cited 𝓤 H (Push 𝓤 H (𝓖 .A) (𝓜 .mem) (𝓡 .run)) 𝓜 𝓡 code.env #open·push push-def.routine code.calls-day·open·push (push-thm.met 𝓤 H 𝓜 𝓖 𝓡)))
+    (cited 𝓤 H (Judge 𝓤 H (𝓖 .A) (𝓜 .mem) (𝓡 .run)) 𝓜 𝓡 code.env #turn·judge judge-def.routine code.calls-turn·judge (judge-thm.met 𝓤 H 𝓜 𝓖 𝓡))
+    (cited 𝓤 H (Pop 𝓤 H (𝓖 .A) (𝓜 .mem) (𝓡 .run)) 𝓜 𝓡 code.env #open·pop pop-def.routine code.calls-open·pop (pop-thm.met 𝓤 H 𝓜 𝓖 𝓡))
+    (cited 𝓤 H (Push 𝓤 H (𝓖 .A) (𝓜 .mem) (𝓡 .run)) 𝓜 𝓡 code.env #open·push push-def.routine code.calls-open·push (push-thm.met 𝓤 H 𝓜 𝓖 𝓡)))

@@ -30,11 +30,11 @@ use denote.Exit.{yes}
 use denote.Signature.{plain}
 use Rattle.meaning.specs.Answers.{Decides}
 use Rattle.meaning.specs.Day.{WrongNesting}
-use Rattle.day.specs.declared.sweep.State.{State}
-use Rattle.day.specs.Sweep.{BeforeTurn}
-use Rattle.day.proofs.sweep.State as S
-use Rattle.day.proofs.sweep.State.Laws as S′
-use Rattle.day.proofs.sweep.judge as judge
+use Rattle.turn.specs.declared.State.{State}
+use Rattle.turn.specs.Sweep.{BeforeTurn}
+use Rattle.turn.proofs.State as S
+use Rattle.turn.proofs.State.Laws as S′
+use Rattle.turn.proofs.judge as judge
 use Rattle.day.proofs.sweep.turns as turns
 use Rattle.day.proofs.Lending.{TR, PL}
 

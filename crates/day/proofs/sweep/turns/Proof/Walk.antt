@@ -44,21 +44,22 @@ use denote.Triple.Call.{calls-at, calls-at-last}
 use denote.Triple.Clauses.{ensured, lasts}
 use borrow.Table.OneValue.{part-out}
 use Rattle.meaning.specs.Limits.{mostNested}
-use Rattle.day.specs.declared.open.Open.{Open}
-use Rattle.day.specs.declared.sweep.State.{State}
-use Rattle.day.specs.Entries.{entry}
-use Rattle.day.specs.Sweep.{Fresh, Turned}
+use Rattle.open.specs.declared.Open.{Open}
+use Rattle.open.specs.Entries.{entry}
+use Rattle.open.proofs.Open as T
+use Rattle.open.proofs.Open.Laws as T′
+use Rattle.open.proofs.pop as pop
+use Rattle.open.proofs.pop.Symbol.{name as #open·pop}
+use Rattle.open.proofs.push as push
+use Rattle.open.proofs.push.Symbol.{name as #open·push}
+use Rattle.turn.specs.declared.State.{State}
+use Rattle.turn.specs.Sweep.{Turned}
+use Rattle.turn.proofs.State as S
+use Rattle.turn.proofs.State.Laws as S′
+use Rattle.turn.proofs.judge as judge
+use Rattle.turn.proofs.judge.Symbol.{name as #turn·judge}
+use Rattle.day.specs.FirstTurn.{Fresh}
 use Rattle.day.proofs.Rounds.{reread, round-begin}
-use Rattle.day.proofs.open.Open as T
-use Rattle.day.proofs.open.Open.Laws as T′
-use Rattle.day.proofs.sweep.State as S
-use Rattle.day.proofs.sweep.State.Laws as S′
-use Rattle.day.proofs.sweep.judge as judge
-use Rattle.day.proofs.sweep.judge.Symbol.{name as #sweep·judge}
-use Rattle.day.proofs.open.pop as pop
-use Rattle.day.proofs.open.pop.Symbol.{name as #open·pop}
-use Rattle.day.proofs.open.push as push
-use Rattle.day.proofs.open.push.Symbol.{name as #open·push}
 use Rattle.day.proofs.sweep.turns as turns
 use Rattle.day.proofs.sweep.turns.Code as code
 use Rattle.day.proofs.sweep.turns.Code.Mir as mirs
@@ -67,7 +68,7 @@ use Rattle.day.proofs.Lending.{TR, PL, room64, toldO, isO, toldS, isS, 
 use Rattle.day.proofs.sweep.turns.Proof.Passed.{Passed, x, v, Own, xT, OwnT, xP, OwnP, args, vals, Judge, Ends, to-judge, goes-judge, exits}
 
 module _ {M : Type 1} (𝓤 : URA M) (H : Heap 𝓤) (A : Atoms 𝓤) (W : Given 𝓤 H A) (mem : Memory → SProp 𝓤) (run : Routine → Fun 𝓤) (p : Passed) (𝓣 : Tables 𝓤 H)
-    (known-judge : Triple 𝓤 (𝓣 .C #sweep·judge) (Judge 𝓤 H A mem run)) (known-pop : Triple 𝓤 (𝓣 .C #open·pop) (Pop 𝓤 H A mem run)) (known-push : Triple 𝓤 (𝓣 .C #open·push) (Push 𝓤 H A mem run)) where
+    (known-judge : Triple 𝓤 (𝓣 .C #turn·judge) (Judge 𝓤 H A mem run)) (known-pop : Triple 𝓤 (𝓣 .C #open·pop) (Pop 𝓤 H A mem run)) (known-push : Triple 𝓤 (𝓣 .C #open·push) (Push 𝓤 H A mem run)) where
   abbrev Post : Val → SProp 𝓤
   Post = Ends 𝓤 H A mem run p
 

@@ -1,4 +1,4 @@
--- One turn of the sweep, over plain lists: what the tournament names, and each way that a turn can end.
+-- One turn of the sweep, over plain lists: each way that it can end.
 use Prim.Native.Nat.{ℕ, suc, _-_, _≤_, _<_}
 use native.Mathlib.Nat.{eq-or-lt-of-le}
 use native.Mathlib.Omega.{arith}
@@ -9,11 +9,11 @@ use Rattle.meaning.specs.Labels.{Lists, Place, Tangled}
 use Rattle.meaning.proofs.Decide.{or-not, lt-decides, eq-decides, le-decides}
 use Rattle.order.specs.Walk.{startOf, endOf, Sorted, next, Comes, Moved}
 use Rattle.order.proofs.WalkLaws.{precedes-le}
-use Rattle.day.specs.declared.sweep.State.{State}
 use Rattle.lists.specs.Ordering.{Ordered}
-use Rattle.day.specs.Sweep.{LiesIn, Swept, pushed, Closes, Refuses, Same, Innermost, Topmost, ClosesOne, OpensOne}
-use Rattle.day.proofs.Sweeping.{sweep-pop, sweep-clash}
-use Rattle.day.proofs.Opening.{sweep-deep, sweep-push}
+use Rattle.turn.specs.declared.State.{State}
+use Rattle.turn.specs.Sweep.{LiesIn, Swept, pushed, Closes, Refuses, Same, Innermost, Topmost, ClosesOne, OpensOne}
+use Rattle.turn.proofs.Sweeping.{sweep-pop, sweep-clash}
+use Rattle.turn.proofs.Opening.{sweep-deep, sweep-push}
 
 module _ (t : Lists) (law : Ordered t) (pos : ℕ → ℕ) (s : State) (stack : ℕ → Place) (swept : Swept t pos stack (s .depth)) (inner : Innermost t stack s) (sorted : Sorted t pos) (r start : ℕ) (comes : Comes t pos r) (start-is : start ≡ startOf t (next pos r)) where
   -- The innermost record ends before the next label starts: it is closed.

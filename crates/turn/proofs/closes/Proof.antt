@@ -1,8 +1,8 @@
--- `sweep::closes` meets its contract: each way answers by its tests.
+-- `turn::closes` meets its contract: each way answers by its tests.
 use native.Mathlib.Omega.{arith}
 use Rattle.meaning.specs.Answers.{holds, fails}
-use Rattle.day.proofs.sweep.closes.Statement.{statement}
-use Rattle.day.proofs.sweep.closes.Tie as tie
+use Rattle.turn.proofs.closes.Statement.{statement}
+use Rattle.turn.proofs.closes.Tie as tie
 
 returns : tie.Need-returns
 returns c = fails (λ h. omega (arith, c .if1 .taken, h .0))

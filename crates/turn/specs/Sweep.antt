@@ -10,10 +10,10 @@ use Rattle.meaning.specs.Labels.{Lists, Place, labelOf, Holds, Inside, Nested, 
 use Rattle.meaning.specs.Answers.{Decides}
 use Rattle.meaning.specs.Day.{listsOf}
 use Rattle.order.specs.Walk.{startOf, endOf, Seen, Waits, next, Moved}
-use Rattle.order.specs.Standing.{cursor, Names, Standing, Begun}
-use Rattle.day.specs.declared.open.Open.{Open}
-use Rattle.day.specs.declared.sweep.State.{State}
+use Rattle.order.specs.Standing.{cursor, Names, Standing}
 use Rattle.lists.specs.Ordering.{Ordered}
+use Rattle.open.specs.declared.Open.{Open}
+use Rattle.turn.specs.declared.State.{State}
 
 -- The label at x lies inside the one at y.
 abbrev pub LiesIn : Lists → Place → Place → Type 0
@@ -72,13 +72,6 @@ pub record BeforeTurn (b : List ℕ) (m : ℕ) (tree places : List ℕ) (depth l
   pub names : Names (listsOf b) (cursor b places) least
   pub ordered : Ordered (listsOf b)
   pub shallow : depth ≤ mostNested
-
--- What the first turn may count on: nothing was handed out and no record is open.
-pub record Fresh (b : List ℕ) (m : ℕ) (tree places : List ℕ) (s : State) : Type 0 where
-  pub begun : Begun b m tree places (s .least)
-  pub ordered : Ordered (listsOf b)
-  pub going : s .going ≡ true
-  pub none-open : s .depth ≡ 0
 
 -- A turn that closes the innermost record.
 pub record ClosesOne (t : Lists) (pos : ℕ → ℕ) (stack : ℕ → Place) (s s′ : State) : Type 0 where

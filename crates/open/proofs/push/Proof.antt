@@ -38,14 +38,14 @@ use denote.Triple.Table.{entered}
 use denote.Triple.Walked.{says, needs, Stays, stay-none, stay-slice, walkOf, goes-none, goes-slice, Walks, ends-at, walked, walk-meets}
 use denote.Exit.{yes}
 use denote.Signature.{plain}
-use Rattle.day.specs.declared.open.Open.{Open}
-use Rattle.day.specs.Entries.{blank}
-use Rattle.day.proofs.open.Open as T
-use Rattle.day.proofs.open.Open.Laws as T′
-use Rattle.day.proofs.open.push.Key.{name as #open·push}
-use Rattle.day.proofs.open.push as push
-use Rattle.day.proofs.open.push.Statement as stated
-use Rattle.day.proofs.open.push.Code as code
+use Rattle.open.specs.declared.Open.{Open}
+use Rattle.open.specs.Entries.{blank}
+use Rattle.open.proofs.Open as T
+use Rattle.open.proofs.Open.Laws as T′
+use Rattle.open.proofs.push.Key.{name as #open·push}
+use Rattle.open.proofs.push as push
+use Rattle.open.proofs.push.Statement as stated
+use Rattle.open.proofs.push.Code as code
 
 abbrev stayed : Stays (push.ended .signature .params) (push.ended .kept)
 stayed = (stay-slice (0 ∷ []) tt (plain (λ _. T.the-row)), (stay-none (λ _. usize) yes, (stay-none (λ _. T.the-row) yes, tt)))

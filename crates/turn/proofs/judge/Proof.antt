@@ -1,7 +1,7 @@
--- `sweep::judge` meets its contract: the walk says which label comes next, and each way that a turn can end is a law of `Turning`.
+-- `turn::judge` meets its contract: the walk says which label comes next, and each way that a turn can end is a law of `Turning`.
 use Prim.Native.Nat.{ℕ, _<_}
 use native.Mathlib.Omega.{arith}
-use mathlib.Core.Path.{_≡_, refl, sym, subst}
+use mathlib.Core.Path.{refl, sym, subst}
 use mathlib.Core.Bool.{Bool}
 use mathlib.Core.List.{List}
 use borrow.Author.Needs.{needs}
@@ -13,11 +13,11 @@ use Rattle.meaning.proofs.Decide.{if-true, if-false}
 use Rattle.order.specs.declared.Coming.the-variants.{Label}
 use Rattle.order.specs.Walk.{Foretells}
 use Rattle.order.specs.Standing.{cursor, Names}
-use Rattle.day.specs.Sweep.{Refuses, over, closing, opening}
-use Rattle.day.proofs.Passing.{sweep-end}
-use Rattle.day.proofs.Turning.{turn-close, turn-refuse, turn-open, turn-room}
-use Rattle.day.proofs.sweep.judge.Statement.{statement}
-use Rattle.day.proofs.sweep.judge.Tie as tie
+use Rattle.turn.specs.Sweep.{Refuses, over, closing, opening}
+use Rattle.turn.proofs.Passing.{sweep-end}
+use Rattle.turn.proofs.Turning.{turn-close, turn-refuse, turn-open, turn-room}
+use Rattle.turn.proofs.judge.Statement.{statement}
+use Rattle.turn.proofs.judge.Tie as tie
 
 -- The function's entry, from where the walk was asked.
 abbrev entry : tie.After-comes-next → tie.Start

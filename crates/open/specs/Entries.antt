@@ -3,7 +3,7 @@ use Prim.Native.Nat.{ℕ}
 use mathlib.Core.Path.{_≡_}
 use mathlib.Core.List.{List}
 use lib.ListN.{getD, set}
-use Rattle.day.specs.declared.open.Open.{Open}
+use Rattle.open.specs.declared.Open.{Open}
 
 -- The record with which the table is filled before the first turn.
 abbrev pub blank : Open

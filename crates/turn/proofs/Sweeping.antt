@@ -1,4 +1,4 @@
--- The sweep over lists of labels and no bytes: how it begins, what closes, and what clashes.
+-- The sweep over lists of labels and no bytes: what closes, and what clashes.
 use Prim.Native.Nat.{ℕ, suc, _≤_, _<_}
 use native.Mathlib.Nat.{eq-or-lt-of-le}
 use native.Mathlib.Decide.{ℕ-discrete}
@@ -8,8 +8,8 @@ use mathlib.Core.Logic.{_⊎_, inl, inr, ⊎-elim}
 use borrow.Author.Tests.{lt-ltb, le-ltb}
 use Rattle.meaning.specs.Labels.{Lists, Place, labelOf, Share, Cross, Clash}
 use Rattle.order.specs.Walk.{startOf, endOf, Waits, Sorted, next, Comes}
-use Rattle.order.proofs.WalkLaws.{below-or, precedes-le, none-seen}
-use Rattle.day.specs.Sweep.{Before, Fine, Swept, pushed}
+use Rattle.order.proofs.WalkLaws.{below-or, precedes-le}
+use Rattle.turn.specs.Sweep.{Before, Fine, Swept, pushed}
 
 -- Below the top a pushed record changes nothing.
 pub pushed-below : (stack : ℕ → Place) (depth : ℕ) (x : Place) (k : ℕ) → k < depth → pushed stack depth x k ≡ stack k
@@ -27,16 +27,6 @@ fine-sym t x y (inl a) = inr (inl a)
 fine-sym t x y (inr (inl a)) = inl a
 fine-sym t x y (inr (inr (inl a))) = inr (inr (inr a))
 fine-sym t x y (inr (inr (inr a))) = inr (inr (inl a))
-
--- At the beginning nothing is seen.
-pub sweep-begin : (t : Lists) (pos : ℕ → ℕ) (stack : ℕ → Place) → ((r : ℕ) → r < t .many → pos r ≡ 0) → Swept t pos stack 0
-sweep-begin t pos stack z = record {
-  fine = λ x y s w d. absurd (none-seen t pos z x s);
-  shallow = λ c ch s. none-seen t pos z (c 0) (s 0 (omega arith));
-  held = λ k l. absurd (omega arith);
-  nest = λ j k l m. absurd (omega arith);
-  closed = λ x y s w. absurd (none-seen t pos z x s);
-}
 
 module _ (t : Lists) (pos : ℕ → ℕ) (stack : ℕ → Place) (depth r : ℕ) (w : Swept t pos stack depth) (sorted : Sorted t pos) (comes : Comes t pos r) where
   -- An open record that ends before the next label starts is closed.

@@ -1,9 +1,9 @@
--- `sweep::refused` meets its contract: each way answers by its tests.
+-- `turn::refused` meets its contract: each way answers by its tests.
 use native.Mathlib.Omega.{arith}
 use mathlib.Core.Logic.{inl, inr, ⊎-elim}
 use Rattle.meaning.specs.Answers.{holds, fails}
-use Rattle.day.proofs.sweep.refused.Statement.{statement}
-use Rattle.day.proofs.sweep.refused.Tie as tie
+use Rattle.turn.proofs.refused.Statement.{statement}
+use Rattle.turn.proofs.refused.Tie as tie
 
 returns : tie.Need-returns
 returns c = fails (λ h. omega (arith, c .if1 .taken, h .0))

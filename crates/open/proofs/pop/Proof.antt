@@ -35,14 +35,14 @@ use denote.Triple.Table.{entered}
 use denote.Triple.Walked.{says, needs, Stays, stay-none, stay-none-slice, walkOf, goes-none, goes-none-slice, Walks, ends-at, walked, walk-meets}
 use denote.Exit.{yes}
 use denote.Signature.{plain}
-use Rattle.day.specs.declared.open.Open.{Open}
-use Rattle.day.specs.Entries.{blank, entry}
-use Rattle.day.proofs.open.Open as T
-use Rattle.day.proofs.open.Open.Laws as T′
-use Rattle.day.proofs.open.pop.Key.{name as #open·pop}
-use Rattle.day.proofs.open.pop as pop
-use Rattle.day.proofs.open.pop.Statement as stated
-use Rattle.day.proofs.open.pop.Code as code
+use Rattle.open.specs.declared.Open.{Open}
+use Rattle.open.specs.Entries.{blank, entry}
+use Rattle.open.proofs.Open as T
+use Rattle.open.proofs.Open.Laws as T′
+use Rattle.open.proofs.pop.Key.{name as #open·pop}
+use Rattle.open.proofs.pop as pop
+use Rattle.open.proofs.pop.Statement as stated
+use Rattle.open.proofs.pop.Code as code
 
 abbrev stayed : Stays (pop.ended .signature .params) (pop.ended .kept)
 stayed = (stay-none-slice (0 ∷ []) tt (plain (λ _. T.the-row)) yes, (stay-none (λ _. usize) yes, tt))

@@ -1,7 +1,7 @@
 // The table of the records that are still open, one inside the other: place 0 has the outermost.
 ghost use Prim.Native.Nat.{_<_};
 ghost use lib.ListN.{length};
-ghost use Rattle.day.specs.Entries.{Stored, Taken};
+ghost use Rattle.open.specs.Entries.{Stored, Taken};
 
 // A record that is still open: its numbers and its list.
 pub struct Open {

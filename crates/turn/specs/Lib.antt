@@ -1,0 +1,2 @@
+-- What one turn of the sweep promises.
+pub mod Sweep

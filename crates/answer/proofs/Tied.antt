@@ -10,7 +10,7 @@ use Rattle.meaning.specs.Pages.{answerRoom, evidenceRoom}
 use Rattle.meaning.specs.Promises.{Checked, Answered, Shown}
 use Rattle.meaning.proofs.Laws.Table.{checked-fixed}
 use Rattle.meaning.proofs.Laws.Promise.{answered-fixed, shown-fixed}
-use Rattle.meaning.proofs.Cases.{Asking, Case, ask, check, empty, IsRoom, joined, resultOf, over, AskRight, Right, All}
+use Rattle.meaning.proofs.Cases.{Asking, Case, ask, check, empty, IsRoom, joined, resultOf, over, Right, All}
 use Rattle.meaning.proofs.Cases.Stars.{stars, stars-right}
 
 -- Whatever buffer of the table's room is lent, the answer call and the evidence call give the table's outcome.

@@ -1,10 +1,9 @@
 -- The list of a name among the rows, from the last of them to the first.
-use Prim.Native.Nat.{ℕ, zero, suc, _+_, _*_, _-_, _≤_, _<_}
+use Prim.Native.Nat.{ℕ, zero, suc, _-_, _≤_, _<_}
 use native.Mathlib.Omega.{arith}
 use mathlib.Core.Path.{_≡_, refl, sym, ap, _∙_}
 use mathlib.Core.Bool.{Bool, true, false, cond}
 use mathlib.Core.List.{List}
-use Rattle.meaning.specs.declared.Body.{Body}
 use Rattle.meaning.specs.Names.{filled, same}
 use Rattle.meaning.specs.Day.{tags, nameField, rowList, listAmong, listOf}
 use Rattle.meaning.specs.Refusals.{Lawful}

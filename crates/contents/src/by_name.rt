@@ -1,6 +1,6 @@
 // Looking up a name in a lawful index.
 ghost use mathlib.Core.Path.{_≡_};
-ghost use Prim.Native.Nat.{_+_, _*_, _≤_};
+ghost use Prim.Native.Nat.{_≤_};
 ghost use lib.ListN.{length};
 ghost use Rattle.meaning.specs.Day.{rowAt, listAmong, listOf, bodyOf};
 ghost use Rattle.meaning.specs.Refusals.{Lawful};

@@ -3,7 +3,6 @@ use Prim.Native.Nat.{ℕ, _≤_, _<_}
 use mathlib.Core.Path.{_≡_}
 use mathlib.Core.Bool.{Bool, true, false}
 use mathlib.Core.List.{List}
-use lib.ListN.{length}
 use Rattle.meaning.specs.Notation.{from}
 use Rattle.meaning.specs.Bytes.{at}
 use Rattle.meaning.specs.Picks.{Asked, Pick}

@@ -1,7 +1,7 @@
 // The engine: a cursor for each step of a question, moved on until all fit. It works over lent arrays, and knows neither names nor text. No
 // cursor ever moves back, so that all moves of one page together are at most as many as the lists of the question's steps have records.
 ghost use mathlib.Core.Path.{_≡_};
-ghost use Prim.Native.Nat.{ℕ, _+_, _*_, _<_, _≤_};
+ghost use Prim.Native.Nat.{_+_, _*_, _<_, _≤_};
 ghost use lib.ListN.{length};
 ghost use Rattle.meaning.specs.Limits.{mostSteps};
 ghost use Rattle.meaning.specs.Bytes.{at};

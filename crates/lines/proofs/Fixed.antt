@@ -1,12 +1,12 @@
 -- What writing a line gives is fixed: two outcomes that satisfy its promise are equal in the number and in the whole buffer.
 use Prim.Native.Nat.{ℕ}
-use mathlib.Core.Path.{_≡_, sym, ap, subst, _∙_}
+use mathlib.Core.Path.{_≡_, sym, ap, _∙_}
 use mathlib.Core.List.{List, _++_}
 use lib.ListN.{length, take, drop, take-append-drop}
 use lib.Seq.{length-take-le}
 use Rattle.meaning.specs.declared.Label.{Label}
 use Rattle.meaning.proofs.Laws.Printing.{line-fixed}
-use Rattle.lines.specs.Adding.{Kept, Written}
+use Rattle.lines.specs.Adding.{Written}
 
 pub written-fixed : (label : ℕ → Label) (k : ℕ) (entry x y : List ℕ) (r s : ℕ) → Written label k entry x r → Written label k entry y s → (r ≡ s) × (x ≡ y)
 written-fixed label k entry x y r s v w =

@@ -10,7 +10,7 @@ use Rattle.reader.specs.Reading.{labels}
 use Rattle.label.proofs.PartLaws.{label-part}
 use Rattle.contents.specs.Parts.{Placed, rowBody}
 use Rattle.contents.proofs.BodyLaws.{body-length}
-use Rattle.lists.specs.Ordering.{Disordered, BodyWrong, ListWrong, backward, descent}
+use Rattle.lists.specs.Ordering.{BodyWrong, ListWrong, backward, descent}
 
 module _ (b : List ℕ) (r : ℕ) (p : Placed b) (l : r < tags b) where
   -- The body has as many whole labels as the list.

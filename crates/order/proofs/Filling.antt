@@ -1,23 +1,20 @@
 -- The lists' places in the index, their keys, and how a walk begins.
-use Prim.Native.Nat.{ℕ, _+_, _*_, _-_, _/_, _≤_, _<_}
+use Prim.Native.Nat.{ℕ, _+_, _*_, _-_, _≤_, _<_}
 use native.Mathlib.Nat.{eq-or-lt-of-le, ne-of-lt}
 use native.Mathlib.Omega.{arith}
-use mathlib.Core.Path.{_≡_, refl, sym, ap, subst, _∙_}
-use mathlib.Core.Logic.{_⊎_, inl, inr, _≢_}
+use mathlib.Core.Path.{_≡_, refl, ap, subst, _∙_}
+use mathlib.Core.Logic.{_⊎_, inl, inr}
 use mathlib.Core.List.{List}
 use lib.ListN.{length, set, length-set}
 use lib.Seq.{getD-set-same, getD-set-other}
-use Rattle.meaning.specs.declared.Label.{Label}
 use Rattle.meaning.specs.Limits.{mostTags}
 use Rattle.meaning.specs.Bytes.{u32At}
 use Rattle.meaning.specs.Labels.{Lists}
 use Rattle.meaning.specs.Day.{tags, offset, count, labelAt, listsOf}
-use Rattle.contents.specs.Parts.{Placed}
 use Rattle.meaning.specs.Bytes.{at}
 use Rattle.tournament.specs.Tournament.{numbers, nodes, past, Tree, SameLeaves, Root}
 use Rattle.order.specs.Keys.{Key, Keys}
-use Rattle.order.specs.Walk.{Ascend}
-use Rattle.order.specs.Standing.{positionAt, cursor, AtLabel, Cursors, Lent, Filled, Standing, Begun}
+use Rattle.order.specs.Standing.{positionAt, cursor, AtLabel, Cursors, Lent, Filled, Begun}
 use Rattle.order.proofs.WalkLaws.{none-seen}
 use Rattle.order.proofs.Naming.{names-of}
 

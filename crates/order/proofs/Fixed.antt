@@ -1,16 +1,16 @@
 -- What a walk gives is fixed: the place of every list, and the number that names what comes next.
-use Prim.Native.Nat.{ℕ, _+_, _*_, _/_, _%_, _≤_, _<_}
+use Prim.Native.Nat.{ℕ, _%_, _≤_, _<_}
 use native.Mathlib.Nat.{lt-of-not-le}
 use native.Mathlib.Decide.{decLe, ℕ-discrete}
 use native.Mathlib.Omega.{arith}
 use mathlib.Core.Path.{_≡_, sym, ap, subst, _∙_}
 use mathlib.Core.List.{List}
 use Rattle.meaning.specs.Limits.{mostTags}
-use Rattle.meaning.specs.Labels.{Lists, Place}
+use Rattle.meaning.specs.Labels.{Lists}
 use Rattle.meaning.specs.Day.{tags, listsOf}
 use Rattle.meaning.specs.Bytes.{at}
 use Rattle.tournament.specs.Tournament.{past}
-use Rattle.order.specs.Walk.{startOf, next, Waits, Precedes, Comes}
+use Rattle.order.specs.Walk.{startOf, next, Precedes, Comes}
 use Rattle.order.specs.Standing.{cursor, Cursors, Names, Begun, HandsOut}
 use Rattle.order.proofs.WalkLaws.{comes-one, done-none}
 

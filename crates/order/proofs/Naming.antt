@@ -12,7 +12,7 @@ use Rattle.order.specs.Walk.{Ascend, Waits, startOf, next, Comes, Done}
 use Rattle.order.specs.Standing.{Names}
 use Rattle.meaning.specs.Bytes.{at}
 use Rattle.tournament.specs.Tournament.{past, Root}
-use Rattle.order.specs.Keys.{Key, Keys}
+use Rattle.order.specs.Keys.{Keys}
 use Rattle.order.proofs.WalkLaws.{precedes-by, first-of-all}
 use Rattle.tournament.proofs.Playing.{root-least, root-leaf}
 

@@ -1,16 +1,15 @@
 -- One label is handed out: its list's place moves on by a label, and its next key is put into the tournament.
-use Prim.Native.Nat.{ℕ, suc, _+_, _*_, _-_, _/_, _≤_, _<_}
+use Prim.Native.Nat.{ℕ, suc, _+_, _-_, _<_}
 use native.Mathlib.Decide.{ℕ-discrete}
 use native.Mathlib.Omega.{arith}
-use mathlib.Core.Path.{_≡_, sym, ap, subst, _∙_}
+use mathlib.Core.Path.{_≡_, ap, subst, _∙_}
 use mathlib.Core.Logic.{_≢_}
 use mathlib.Core.List.{List}
 use lib.ListN.{length, set, length-set}
 use lib.Seq.{getD-set-same, getD-set-other}
-use Rattle.meaning.specs.Limits.{mostTags}
-use Rattle.meaning.specs.Day.{tags, offset, count, listsOf}
+use Rattle.meaning.specs.Day.{tags, count, listsOf}
 use Rattle.meaning.specs.Bytes.{at}
-use Rattle.tournament.specs.Tournament.{Tree, Root, Put}
+use Rattle.tournament.specs.Tournament.{Put}
 use Rattle.order.specs.Keys.{Key, Keys}
 use Rattle.order.specs.Walk.{Comes, Moved}
 use Rattle.order.specs.Standing.{positionAt, cursor, AtLabel, Cursors, Standing, HandsOut}

@@ -1,8 +1,8 @@
 // All labels of all lists in order of start. A walk is two lent arrays and a number, and knows what comes next; copies of the three are a
 // walk of their own, which goes on from the same place.
 ghost use mathlib.Core.Path.{_≡_};
-ghost use Prim.Native.Nat.{_<_, _≤_};
-ghost use lib.ListN.{length, replicate};
+ghost use Prim.Native.Nat.{_<_};
+ghost use lib.ListN.{replicate};
 ghost use Rattle.meaning.specs.Limits.{mostTags};
 ghost use Rattle.meaning.specs.Day.{tags, listsOf};
 ghost use Rattle.contents.specs.Parts.{Placed};

@@ -1,6 +1,6 @@
 // One page of rows: the cursors are settled once for each row, and the row is a part of them.
 ghost use mathlib.Core.Path.{_≡_};
-ghost use Prim.Native.Nat.{ℕ, _+_, _*_, _/_, _<_, _≤_};
+ghost use Prim.Native.Nat.{ℕ, _+_, _/_, _<_, _≤_};
 ghost use lib.ListN.{length, set, drop, replicate};
 ghost use lib.Seq.{paste};
 ghost use Rattle.meaning.specs.Limits.{mostLabels, mostSteps};

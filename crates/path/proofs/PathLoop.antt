@@ -7,7 +7,7 @@ use mathlib.Core.List.{List, _∷_}
 use lib.ListN.{length, drop}
 use lib.Seq.{length-sets}
 use Rattle.meaning.specs.Limits.{mostText, mostSteps}
-use Rattle.meaning.specs.Notation.{from, steps, depth}
+use Rattle.meaning.specs.Notation.{steps, depth}
 use Rattle.meaning.specs.Ends.{Stops}
 use Rattle.meaning.proofs.Laws.Step.{steps-some}
 use Rattle.draft.specs.declared.Draft.{Draft}

@@ -1,18 +1,17 @@
 -- The plan of a tree over a lawful index: it fits, and agrees with the question of the tree.
-use Prim.Native.Nat.{ℕ, _+_, _*_, _≤_, _<_}
+use Prim.Native.Nat.{ℕ, _+_, _≤_, _<_}
 use native.Mathlib.Omega.{arith}
-use borrow.Author.Tests.{eq-eqb, ne-eqb}
 use mathlib.Core.Path.{_≡_, refl, sym, ap, subst, _∙_}
 use mathlib.Core.Logic.{_⊎_, inl, inr, _≢_, ⊎-elim}
 use mathlib.Core.List.{List}
-use lib.ListN.{length, getD, set, replicate, length-set}
+use lib.ListN.{set, replicate, length-set}
 use lib.Seq.{ext-getD}
 use Rattle.meaning.specs.declared.Label.{Label}
 use Rattle.meaning.specs.declared.Body.{Body}
 use Rattle.meaning.specs.declared.Question.{Question}
-use Rattle.meaning.specs.Limits.{mostSteps, mostLabels}
+use Rattle.meaning.specs.Limits.{mostSteps}
 use Rattle.meaning.specs.Labels.{Inside, Apart}
-use Rattle.meaning.specs.Day.{tags, offset, count, total, labelAt, listOf}
+use Rattle.meaning.specs.Day.{offset, count, labelAt, listOf}
 use Rattle.meaning.specs.Notation.{Path, Hook, nothing, from, steps, returnedStep}
 use Rattle.meaning.specs.Bytes.{at}
 use Rattle.meaning.specs.Picks.{Asked, asked, stepAt}
@@ -20,7 +19,7 @@ use Rattle.meaning.specs.Refusals.{Lawful}
 use Rattle.meaning.proofs.Decide.{or-not, lt-decides}
 use Rattle.meaning.specs.Fit.{Fit}
 use Rattle.meaning.proofs.Laws.Bytes.{zero-at}
-use Rattle.meaning.proofs.Laws.Day.{lawful-fit, list-of-row, list-small}
+use Rattle.meaning.proofs.Laws.Day.{lawful-fit, list-small}
 use Rattle.meaning.proofs.Laws.Notation.{one-tree}
 use Rattle.meaning.proofs.Laws.Step.{hook-upward}
 use Rattle.meaning.proofs.Laws.Promise.{lawful-small}

@@ -9,8 +9,7 @@ use Rattle.meaning.specs.Notation.{Path, Follows, steps, returnedStep}
 use Rattle.meaning.specs.Bytes.{at}
 use Rattle.meaning.specs.Picks.{stepAt}
 use Rattle.meaning.specs.declared.Question.{Question}
-use Rattle.question.specs.Questions.{hookNumber}
-use Rattle.question.specs.Questions.{questionOf}
+use Rattle.question.specs.Questions.{hookNumber, questionOf}
 
 -- An array of 32 numbers, of which the first k are those of f, and 0 stands behind them.
 pub record Column (k : ℕ) (f : ℕ → ℕ) (xs : List ℕ) : Type 0 where

@@ -2,4 +2,5 @@
 pub mod Fixed
 pub mod Texts
 pub mod Outcomes
+pub mod ReadTable
 pub mod StoredSteps

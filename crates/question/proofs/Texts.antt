@@ -9,7 +9,7 @@ use lib.ListN.{length, drop, replicate, length-append, length-drop, length-repli
 use lib.Seq.{sets, sets-eq, drop-nil}
 use Rattle.meaning.specs.declared.Step.{Step}
 use Rattle.meaning.specs.Limits.{mostText, mostSteps}
-use Rattle.meaning.specs.Notation.{Path, path, nothing, from, write, Follows, steps, depth, lastStep, returnedStep, NotFollowing}
+use Rattle.meaning.specs.Notation.{nothing, write, Follows, steps, depth, lastStep, returnedStep, NotFollowing}
 use Rattle.draft.specs.declared.Draft.{Draft}
 use Rattle.draft.specs.Drafts.{blankStep, filledUp, fresh, grown}
 use Rattle.draft.specs.Steps.{MayRead}

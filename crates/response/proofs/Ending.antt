@@ -1,14 +1,13 @@
 -- From the page that the engine writes to the pages that the two calls promise.
-use Prim.Native.Nat.{ℕ, zero, suc, _+_, _/_, _≤_, _<_}
+use Prim.Native.Nat.{ℕ, _/_, _≤_}
 use native.Mathlib.Omega.{arith}
-use mathlib.Core.Path.{_≡_, refl, sym, ap, subst, _∙_}
+use mathlib.Core.Path.{sym, ap, subst, _∙_}
 use mathlib.Core.List.{List, [], _∷_}
-use lib.ListN.{length, take, drop}
+use lib.ListN.{length, take}
 use lib.Seq.{drop-cons, take-all}
 use Rattle.meaning.specs.declared.Page.{Page}
 use Rattle.meaning.specs.Limits.{mostSteps}
 use Rattle.meaning.specs.Notation.{Path, steps}
-use Rattle.meaning.specs.Bytes.{at}
 use Rattle.meaning.specs.Picks.{Asked, Evidence, asked}
 use Rattle.meaning.specs.Pages.{Paged, Position, answerRoom, evidenceRoom}
 use Rattle.meaning.specs.Refusals.{Lawful}

@@ -1,24 +1,21 @@
 -- From what the parts of a call promise to the promise of the call.
-use Prim.Native.Nat.{ℕ, _/_, _≤_, _<_}
+use Prim.Native.Nat.{ℕ, _/_}
 use native.Mathlib.Omega.{arith}
 use mathlib.Core.Path.{_≡_, refl, sym, ap, subst, _∙_}
-use mathlib.Core.Logic.{inl, inr, _≢_, ⊎-elim}
+use mathlib.Core.Logic.{_≢_}
 use mathlib.Core.Bool.{Bool, true, false}
 use mathlib.Core.List.{List}
 use lib.ListN.{length}
 use Rattle.meaning.specs.declared.Page.{Page}
-use Rattle.meaning.specs.Limits.{mostSteps}
-use Rattle.meaning.specs.Notation.{Follows, steps}
-use Rattle.meaning.specs.Picks.{Asked, Evidence, asked}
-use Rattle.meaning.specs.Pages.{Paged, Refused, Position, answerRoom, evidenceRoom, TooMany}
+use Rattle.meaning.specs.Pages.{Paged, TooMany}
 use Rattle.meaning.specs.Refusals.{Table, end, row, Given, Clear, clear, given, Lawful, checkTable, questionTable, callTable}
 use Rattle.meaning.specs.Promises.{Checked, refused, page}
-use Rattle.meaning.proofs.Decide.{or-not, le-decides}
-use Rattle.meaning.proofs.Laws.Table.{Rising, above, given-applies, given-first, given-after, clear-both}
+use Rattle.meaning.proofs.Laws.Table.{above, given-applies, given-first, given-after, clear-both}
 use Rattle.meaning.proofs.Laws.Promise.{never-too-many}
 use Rattle.question.specs.declared.Reading.{Reading}
 use Rattle.question.specs.Promise.{ReadAs, readTable}
 use Rattle.question.specs.Promise as reading
+use Rattle.question.proofs.ReadTable.{read-rising, few-steps}
 use Rattle.cursors.specs.Plan.{planOf}
 use Rattle.plan.specs.Drawn.{Asks, Draws}
 use Rattle.pages.specs.RowParts.{PartOf}
@@ -56,13 +53,7 @@ pub record Heard (text : List ℕ) (q : Reading) : Type 0 where
   pub clear : Clear (readTable text)
   pub asks : Asks text (q .question)
 
-read-rising : (text : List ℕ) → Rising 0 (readTable text)
-read-rising text = (omega arith, (omega arith, (omega arith, tt)))
-
--- A text that is read has at most 32 steps.
-pub few-steps : {text : List ℕ} → Clear (readTable text) → (f : Follows text) → steps (f .tree) ≤ mostSteps
-few-steps c f = ⊎-elim (λ l. l) (λ n. absurd (c .1 .1 .0 (f, inl (omega arith)))) (or-not (le-decides (steps (f .tree)) mostSteps))
-
+-- What reading says where it refuses nothing.
 pub heard : (text : List ℕ) (q : Reading) → ReadAs text q → q .refusal ≡ 0 → Heard text q
 heard text q (reading.refused {n} g e) zero = absurd (omega (arith, above (readTable text) 0 (read-rising text) n (given-applies (readTable text) n g), ap (λ (x : Reading). x .refusal) e))
 heard text q (reading.read c f e) zero = record { clear = c; asks = record { writes = f; few = few-steps c f; is = ap (λ (x : Reading). x .question) e } }

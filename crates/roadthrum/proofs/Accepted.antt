@@ -4,10 +4,10 @@ use Prim.Native.Nat.{ℕ, zero, suc, _+_, _-_, _*_, _/_, _≤_, _<_}
 use native.Mathlib.Nat.{suc-mul, div-eq-sub-div}
 use native.Mathlib.Omega.{arith}
 use mathlib.Core.Path.{_≡_, refl, sym, ap, subst, _∙_}
-use mathlib.Core.Logic.{_⊎_, inl, inr, ⊎-elim}
+use mathlib.Core.Logic.{_⊎_, ⊎-elim}
 use mathlib.Core.Bool.{true, true≢false}
 use mathlib.Core.List.{List, [], _∷_, _++_}
-use lib.ListN.{length, take, drop, getD, length-append, List·getD-append}
+use lib.ListN.{length, take, drop, length-append, List·getD-append}
 use lib.Seq.{length-take-le, getD-append-add}
 use Rattle.meaning.specs.declared.Page.{Page}
 use Rattle.meaning.specs.Limits.{mostSteps}
@@ -26,8 +26,8 @@ use Rattle.contents.proofs.FindLaws.{list-within}
 use Rattle.question.specs.declared.Reading.{Reading}
 use Rattle.question.specs.Promise.{ReadAs, readTable}
 use Rattle.question.specs.Promise as reading
+use Rattle.question.proofs.ReadTable.{few-steps}
 use Rattle.plan.specs.Drawn.{Asks, Drawn}
-use Rattle.answer.proofs.Responding.{few-steps}
 
 -- What an accepted call has found.
 pub record Accepted (b text : List ℕ) (place : ℕ) (entry rows : List ℕ) (r : Page) : Type 0 where

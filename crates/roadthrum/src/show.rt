@@ -1,7 +1,5 @@
 // What the program prints.
-ghost use Prim.Native.Nat.{_≤_};
 ghost use lib.ListN.{length};
-ghost use Rattle.meaning.specs.Limits.{mostSteps};
 ghost use Rattle.roadthrum.specs.PageRows.{RowAt, PageGiven};
 use lines::Line;
 use lines::write_line;

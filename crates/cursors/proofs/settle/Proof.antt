@@ -2,16 +2,16 @@
 use Prim.Native.Nat.{ℕ, _+_, _*_, _-_, _≤_, _<_}
 use native.Mathlib.Omega.{arith}
 use borrow.Author.Needs.{needs}
-use mathlib.Core.Path.{_≡_, refl, sym, subst}
+use mathlib.Core.Path.{refl, subst}
 use mathlib.Core.List.{List}
 use lib.ListN.{length}
 use Rattle.meaning.specs.Bytes.{at}
-use Rattle.cursors.specs.Plan.{planOf, Planned}
-use Rattle.cursors.specs.Cursors.{Settled, found, ended}
+use Rattle.cursors.specs.Plan.{planOf}
+use Rattle.cursors.specs.Cursors.{found, ended}
 use Rattle.cursors.specs.declared.Sight.{Sight}
 use Rattle.cursors.specs.declared.Sight.the-variants.{Early, Late, Touching}
 use Rattle.cursors.specs.Looking.{Looks}
-use Rattle.cursors.proofs.SettleTurns.{SettleTurn, μ, turn-begin, turn-end, turn-none, turn-free, turn-jump, raised, turn-back, turn-on, on-less, jump-less, back-less, above-held, above-room, up-lt, ascends}
+use Rattle.cursors.proofs.SettleTurns.{SettleTurn, μ, turn-begin, turn-end, turn-none, turn-free, turn-jump, raised, turn-back, turn-on, jump-less, back-less, above-held, above-room, up-lt, ascends}
 use Rattle.cursors.proofs.settle.Statement.{statement}
 use Rattle.cursors.proofs.settle.Tie as tie
 

@@ -1,6 +1,6 @@
 -- `fill` meets its contract. The loop's invariant: the first r lists have their places and keys.
 use borrow.Author.Needs.{needs}
-use Prim.Native.Nat.{ℕ, _-_}
+use Prim.Native.Nat.{_-_}
 use native.Mathlib.Omega.{arith}
 use Rattle.order.proofs.Filling.{Filling, filling-begin, filling-on, filling-end, at-first}
 use Rattle.order.proofs.fill.Statement.{statement}

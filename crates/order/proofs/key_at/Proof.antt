@@ -1,7 +1,7 @@
 -- `key_at` meets its contract: the start that is read is that of the list's label at the place, or the list has none there.
 use borrow.Author.Needs.{needs}
 use native.Mathlib.Omega.{arith}
-use mathlib.Core.Path.{_≡_, sym, ap, subst, _∙_}
+use mathlib.Core.Path.{sym, ap, subst, _∙_}
 use Prim.Native.Nat.{ℕ}
 use Rattle.meaning.specs.declared.Label.{Label}
 use Rattle.meaning.specs.Day.{listsOf}

@@ -3,8 +3,6 @@ use borrow.Author.Needs.{needs}
 use Prim.Native.Nat.{ℕ}
 use native.Mathlib.Omega.{arith}
 use mathlib.Core.Path.{sym, subst}
-use mathlib.Core.List.{List}
-use Rattle.meaning.specs.Bytes.{at}
 use Rattle.tournament.specs.Tournament.{Tree}
 use Rattle.order.proofs.Passing.{list-lt, here, room, at-next, hands-out}
 use Rattle.order.proofs.pass.Statement.{statement}

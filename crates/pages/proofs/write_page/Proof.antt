@@ -1,17 +1,17 @@
 -- `pages::write_page` meets its contract. The loop's invariant is `Writing`, with the room that the promise says; the measure is the room that is left.
-use Prim.Native.Nat.{ℕ, suc, _+_, _*_, _-_, _/_, _≤_, _<_}
-use mathlib.Core.Path.{_≡_, refl, sym, ap, _∙_, subst}
+use Prim.Native.Nat.{ℕ, _+_, _-_, _/_, _≤_, _<_}
+use mathlib.Core.Path.{_≡_, refl, ap, _∙_}
 use mathlib.Core.List.{List}
 use native.Mathlib.Omega.{arith}
 use borrow.Author.Needs.{needs}
 use native.Mathlib.Nat.{div-le-self}
 use borrow.Author.Tests.{not-true, not-false}
-use lib.ListN.{length, getD, set, take, drop, length-drop}
+use lib.ListN.{length, take, drop, length-drop}
 use lib.Seq.{length-paste, take-paste, drop-paste}
 use Rattle.meaning.specs.Limits.{mostLabels}
 use Rattle.meaning.specs.Bytes.{at}
 use Rattle.meaning.specs.Picks.{Asked, Evidence}
-use Rattle.cursors.specs.Plan.{planOf, Planned}
+use Rattle.cursors.specs.Plan.{planOf}
 use Rattle.cursors.specs.Cursors.{LeastPick}
 use Rattle.pages.specs.RowParts.{PartOf}
 use Rattle.pages.proofs.Paging.{Writing, page-begin, page-done, page-full, page-row, writing-with, evidence-of, part-of, settled-found, settled-none, rows-fit, row-fits}

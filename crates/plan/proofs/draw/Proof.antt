@@ -1,17 +1,15 @@
 -- `plan::draw` meets its contract. The loop's invariant is `Drawing`.
-use Prim.Native.Nat.{ℕ, _+_, _-_, _≤_, _<_}
+use Prim.Native.Nat.{_-_, _<_}
 use native.Mathlib.Omega.{arith}
 use borrow.Author.Needs.{needs}
-use mathlib.Core.Path.{_≡_, refl, sym, ap, _∙_}
-use mathlib.Core.List.{List}
-use lib.ListN.{length, getD}
+use mathlib.Core.Path.{ap, _∙_}
 use Rattle.meaning.specs.declared.Question.{Question}
 use Rattle.meaning.specs.Day.{listOf}
 use Rattle.meaning.specs.Notation.{steps}
 use Rattle.meaning.specs.Picks.{stepAt}
 use Rattle.question.specs.Questions.{kept}
 use Rattle.question.proofs.StoredSteps.{StoredAs}
-use Rattle.plan.specs.Drawn.{Asks, Draws}
+use Rattle.plan.specs.Drawn.{Asks}
 use Rattle.plan.proofs.Drawing.{Drawing, draw-begin, draw-on, draw-end, asked-step}
 use Rattle.plan.proofs.draw.Statement.{statement}
 use Rattle.plan.proofs.draw.Tie as tie

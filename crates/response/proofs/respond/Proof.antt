@@ -1,7 +1,6 @@
 -- `response::respond` meets its contract: each part's promise is a part of the call's.
-use Prim.Native.Nat.{ℕ, _+_, _≤_, _<_}
+use Prim.Native.Nat.{_≤_}
 use native.Mathlib.Omega.{arith}
-use mathlib.Core.List.{List}
 use Rattle.meaning.specs.Refusals.{Lawful}
 use Rattle.meaning.proofs.Laws.Table.{checked-lawful}
 use Rattle.meaning.proofs.Laws.Step.{steps-some}

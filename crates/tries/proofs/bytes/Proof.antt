@@ -1,5 +1,5 @@
 -- `tries::bytes` is safe and ends: i is at most the number of bytes.
-use Prim.Native.Nat.{ℕ, _-_, _≤_}
+use Prim.Native.Nat.{_-_, _≤_}
 use lib.ListN.{length}
 use borrow.Author.Needs.{needs}
 use Rattle.tries.proofs.bytes.Statement.{statement}

@@ -1,6 +1,4 @@
 -- `tries::labels_of` looks up a name only in an index that the check calls lawful.
-use mathlib.Core.Path.{sym}
-use native.Mathlib.Omega.{arith}
 use borrow.Author.Needs.{needs}
 use Rattle.meaning.proofs.Laws.Table.{checked-lawful}
 use Rattle.tries.proofs.labels_of.Statement.{statement}

@@ -1,6 +1,5 @@
 -- `tries::nested` is safe and ends: i is at most 65.
-use Prim.Native.Nat.{ℕ, _-_, _≤_}
-use native.Mathlib.Omega.{arith}
+use Prim.Native.Nat.{_-_, _≤_}
 use borrow.Author.Needs.{needs}
 use Rattle.tries.proofs.nested.Statement.{statement}
 use Rattle.tries.proofs.nested.Tie as tie

@@ -1,5 +1,5 @@
 -- `tries::numbers` is safe and ends: i is at most n.
-use Prim.Native.Nat.{ℕ, _-_, _≤_}
+use Prim.Native.Nat.{_-_, _≤_}
 use borrow.Author.Needs.{needs}
 use Rattle.tries.proofs.numbers.Statement.{statement}
 use Rattle.tries.proofs.numbers.Tie as tie

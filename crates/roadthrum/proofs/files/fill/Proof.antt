@@ -1,6 +1,5 @@
 -- `roadthrum::files::fill` meets its contract and ends: each read that does not end it brings at least one byte.
 use Prim.Native.Nat.{_-_, _≤_}
-use native.Mathlib.Omega.{arith}
 use mathlib.Core.Path.{_≡_}
 use lib.ListN.{length}
 use borrow.Author.Needs.{needs}

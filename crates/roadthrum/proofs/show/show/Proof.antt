@@ -1,5 +1,5 @@
 -- `roadthrum::show::show` may make its calls, and ends: a page that leaves a record over names a later place.
-use Prim.Native.Nat.{ℕ, _*_, _-_, _≤_, _<_}
+use Prim.Native.Nat.{_*_, _-_, _≤_, _<_}
 use native.Mathlib.Omega.{arith}
 use mathlib.Core.Path.{_≡_, refl}
 use mathlib.Core.Bool.{Bool, true, false, not, true≢false}
@@ -7,7 +7,7 @@ use lib.ListN.{length}
 use Rattle.meaning.specs.Limits.{mostLabels}
 use Rattle.meaning.proofs.Laws.Promise.{few-rows}
 use borrow.Author.Needs.{needs}
-use Rattle.roadthrum.proofs.Accepted.{Accepted, accepted, onward}
+use Rattle.roadthrum.proofs.Accepted.{accepted, onward}
 use Rattle.roadthrum.proofs.show.show.Statement.{statement}
 use Rattle.roadthrum.proofs.show.show.Tie as tie
 

@@ -107,10 +107,8 @@ fn refusal(index: &[u8], text: &[u8]) {
     io::write_all(1, b"\n");
 }
 
-// The small day of document 01: `board` 8:9, 22:23; `call` 1:20, 4:15, 7:12, 21:26, 27:28; `cancel` 2:3, 5:6.
-fn small_day() {
-    let day =
-        b"\x03\x00\x01\x00board\x00\x00\x00\x00\x00\x00\x00\x00\x00\x00\x00L\x00\x00\x00\x02\x00\x00\x00call\x00\x00\x00\x00\x00\x00\x00\x00\x00\x00\x00\x00\x5c\x00\x00\x00\x05\x00\x00\x00cancel\x00\x00\x00\x00\x00\x00\x00\x00\x00\x00\x84\x00\x00\x00\x02\x00\x00\x00\x08\x00\x00\x00\x09\x00\x00\x00\x16\x00\x00\x00\x17\x00\x00\x00\x01\x00\x00\x00\x14\x00\x00\x00\x04\x00\x00\x00\x0f\x00\x00\x00\x07\x00\x00\x00\x0c\x00\x00\x00\x15\x00\x00\x00\x1a\x00\x00\x00\x1b\x00\x00\x00\x1c\x00\x00\x00\x02\x00\x00\x00\x03\x00\x00\x00\x05\x00\x00\x00\x06\x00\x00\x00";
+// The table's questions to the small day, and places at which no record is left.
+fn questions_to(day: &[u8]) {
     ask(day, b"//call[//cancel]//board", 3, 0);
     ask(day, b"//call[//board]", 2, 0);
     ask(day, b"//call[//cancel]", 2, 0);
@@ -123,16 +121,32 @@ fn small_day() {
     ask(day, b"//call[//board]", 2, 9);
     // a place of 4,294,967,295
     ask(day, b"//call", 1, 4294967295);
-    // the labels of a name, byte by byte; of a name without a row, and of the beginning of one, none
+}
+
+// The labels of a name, byte by byte; of a name without a row, and of the beginning of one, none.
+fn names_of(day: &[u8]) {
     look_up(day, b"board");
     look_up(day, b"cancel");
     look_up(day, b"can");
     look_up(day, b"lobby");
+}
+
+// Calls that are refused, and one of an index without a tag.
+fn refusals_of(day: &[u8]) {
     // 1,025 bytes of anything
     refusal(day, &[b'/'; meaning::Question::MOST_BYTES + 1]);
     // a broken index and a broken question: the index's number
     refusal(b"\x00\x00\x02\x00", b"/call");
     ask(b"\x00\x00\x01\x00", b"//call", 1, 0);
+}
+
+// The small day of document 01: `board` 8:9, 22:23; `call` 1:20, 4:15, 7:12, 21:26, 27:28; `cancel` 2:3, 5:6.
+fn small_day() {
+    let day =
+        b"\x03\x00\x01\x00board\x00\x00\x00\x00\x00\x00\x00\x00\x00\x00\x00L\x00\x00\x00\x02\x00\x00\x00call\x00\x00\x00\x00\x00\x00\x00\x00\x00\x00\x00\x00\x5c\x00\x00\x00\x05\x00\x00\x00cancel\x00\x00\x00\x00\x00\x00\x00\x00\x00\x00\x84\x00\x00\x00\x02\x00\x00\x00\x08\x00\x00\x00\x09\x00\x00\x00\x16\x00\x00\x00\x17\x00\x00\x00\x01\x00\x00\x00\x14\x00\x00\x00\x04\x00\x00\x00\x0f\x00\x00\x00\x07\x00\x00\x00\x0c\x00\x00\x00\x15\x00\x00\x00\x1a\x00\x00\x00\x1b\x00\x00\x00\x1c\x00\x00\x00\x02\x00\x00\x00\x03\x00\x00\x00\x05\x00\x00\x00\x06\x00\x00\x00";
+    questions_to(day);
+    names_of(day);
+    refusals_of(day);
 }
 
 // Source 000: `figure` 139:146, 295:302, 319:326; `hidden` 138:147, 209:221, 282:303; `section` 5:60, 61:194, 106:156, 157:173, 281:304.

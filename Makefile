@@ -17,4 +17,4 @@ library:
 
 program:
 	@mkdir -p target && rt check roadthrum > target/program.out 2>&1 || { cat target/program.out; exit 1; }
-	@printf '#!/bin/sh\nexec "%s/machine/run" "%s/target/bin/roadthrum"\n' "$$PWD" "$$PWD" > target/roadthrum && chmod +x target/roadthrum
+	@printf '#!/bin/sh\nexec %s "%s/target/bin/roadthrum"\n' "$$(bash machine/emulator)" "$$PWD" > target/roadthrum && chmod +x target/roadthrum

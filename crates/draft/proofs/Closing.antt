@@ -9,9 +9,7 @@ use lib.ListN.{length, drop, getD, drop-of-length-le}
 use Rattle.meaning.specs.Answers.{Decides}
 use Rattle.meaning.proofs.Decide.{decides-as, eq-decides}
 use Rattle.meaning.specs.Ends.{Stops}
-use Rattle.draft.specs.declared.Draft.{Draft}
-use Rattle.draft.specs.Drafts.{moved}
-use Rattle.draft.specs.Steps.{ShutAt, LeftBracket, shut, unshut}
+use Rattle.draft.specs.Steps.{ShutAt}
 use Rattle.draft.proofs.Bytes.{byte-at, byte-is}
 
 -- A flag is not both set and not.
@@ -35,12 +33,3 @@ module _ (t : List ℕ) (at : ℕ) where
   -- There a `]` stands exactly where the byte is `]`.
   pub byte-shuts : at < length t → Decides (ShutAt t at) (eqb (getD t at 0) 93)
   byte-shuts h = decides-as (byte-at t at 93 h) (λ s. byte-is t at 93 (drop (at + 1) t) s .1) (eq-decides (getD t at 0) 93)
-
--- A draft that moves past a `]` has left a bracket, unless it was broken before.
-pub left-shut : (t : List ℕ) (me : ℕ) (q : Draft) → ShutAt t (q .at) → LeftBracket t me q (moved q (q .at + 1) me)
-unfolding moved
-left-shut t me q h = go (q .broken) refl
-  where
-    go : (b : Bool) → q .broken ≡ b → LeftBracket t me q (moved q (q .at + 1) me)
-    go true e = unshut e (λ f s. not-both e f)
-    go false e = shut e h refl

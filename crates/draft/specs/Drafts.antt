@@ -1,6 +1,6 @@
--- Drafts: the entries of one, the one before the first byte, and what a move or a step more makes of one.
+-- Drafts: the entries of one, the one before the first byte, the broken one, and what a move or a step more makes of one.
 use Prim.Native.Nat.{ℕ, _+_, _-_, max}
-use mathlib.Core.Bool.{false}
+use mathlib.Core.Bool.{Bool, true, false}
 use mathlib.Core.List.{List, [], _∷_, _++_}
 use lib.ListN.{length, replicate}
 use lib.Seq.{sets}
@@ -16,9 +16,17 @@ blankStep = record { start = 0; length = 0; hangs = 0 }
 abbrev pub filledUp : List Step → List Step
 filledUp xs = xs ++ replicate (mostSteps - length xs) blankStep
 
+-- A draft that holds nothing but whether the text is broken.
+unfoldable pub blankDraft : Bool → Draft
+blankDraft broken = record { steps = filledUp []; count = 0; deepest = 0; at = 0; last = 0; broken = broken }
+
 -- The draft before the first byte.
-unfoldable pub fresh : Draft
-fresh = record { steps = filledUp []; count = 0; deepest = 0; at = 0; last = 0; broken = false }
+abbrev pub fresh : Draft
+fresh = blankDraft false
+
+-- The draft of a text that was found not to follow the notation.
+abbrev pub brokenDraft : Draft
+brokenDraft = blankDraft true
 
 -- The draft moved to place `at` of the text, in a path of which step `last` was named last.
 unfoldable pub moved : Draft → ℕ → ℕ → Draft

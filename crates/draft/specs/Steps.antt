@@ -1,14 +1,14 @@
 -- What is asked where a step or a `]` is read at a place of the text, and what reading it promises.
 use Prim.Native.Nat.{ℕ, _+_, _≤_, _<_}
 use mathlib.Core.Path.{_≡_}
-use mathlib.Core.Bool.{true, false}
+use mathlib.Core.Bool.{false}
 use mathlib.Core.List.{List, _∷_, _++_}
 use lib.ListN.{length, drop}
 use Rattle.meaning.specs.Limits.{mostName, mostText, mostSteps}
 use Rattle.meaning.specs.Names.{Name}
 use Rattle.meaning.specs.Ends.{NoFurther}
 use Rattle.draft.specs.declared.Draft.{Draft}
-use Rattle.draft.specs.Drafts.{moved, stepped}
+use Rattle.draft.specs.Drafts.{brokenDraft, moved, stepped}
 
 -- What is asked for a step more, of which the name has so many bytes and which hangs from number `hang`: the draft has 32 entries, the
 -- text is not too long, and the numbers fit their fields where the step will be kept.
@@ -49,17 +49,17 @@ pub data LengthAt (t : List ℕ) (at r : ℕ) : Type 0 where
   long : 0 < r → FoundStep t at (at + 2 + r) → LengthAt t at r
   none : r ≡ 0 → NoStep t at → LengthAt t at r
 
--- Reading a step gives r: the draft behind the step, or a broken one where no step stands.
+-- Reading a step gives r: the draft behind the step, or the broken one where no step stands.
 pub data StepRead (t : List ℕ) (hang d : ℕ) (q r : Draft) : Type 0 where
   taken : (f : FoundStep t (q .at) (r .at)) → r ≡ stepped q hang d (f .name) → StepRead t hang d q r
-  missing : r .broken ≡ true → NoStep t (q .at) → StepRead t hang d q r
+  missing : r ≡ brokenDraft → NoStep t (q .at) → StepRead t hang d q r
 
 -- A `]` stands at place `at`.
 abbrev pub ShutAt : List ℕ → ℕ → Type 0
 ShutAt t at = drop at t ≡ 93 ∷ drop (at + 1) t
 
--- Leaving a bracket gives r: the draft behind the `]`, back in the path of step `me`, or a broken one where the draft was broken or no
+-- Leaving a bracket gives r: the draft behind the `]`, back in the path of step `me`, or the broken one where the draft was broken or no
 -- `]` stands.
 pub data LeftBracket (t : List ℕ) (me : ℕ) (q r : Draft) : Type 0 where
   shut : q .broken ≡ false → ShutAt t (q .at) → r ≡ moved q (q .at + 1) me → LeftBracket t me q r
-  unshut : r .broken ≡ true → (q .broken ≡ false → ShutAt t (q .at) → ⊥) → LeftBracket t me q r
+  unshut : r ≡ brokenDraft → (q .broken ≡ false → ShutAt t (q .at) → ⊥) → LeftBracket t me q r

@@ -9,7 +9,7 @@ ghost use lib.ListN.{length, drop};
 ghost use Rattle.meaning.specs.Answers.{Decides};
 ghost use Rattle.meaning.specs.Limits.{mostText};
 ghost use Rattle.meaning.specs.Ends.{Stops};
-ghost use Rattle.draft.specs.Drafts.{filledUp, fresh, grown};
+ghost use Rattle.draft.specs.Drafts.{filledUp, blankDraft, grown};
 ghost use Rattle.draft.specs.Steps.{Space, MayRead, LengthAt, StepRead, ShutAt, LeftBracket};
 
 // How far the reading has come. Its fields are narrow, since each open bracket keeps one of these on the stack.
@@ -95,14 +95,13 @@ impl Draft {
     }
 
     // Reads the step that must stand here, in `depth` brackets, which hangs from step `hang`.
-    pub fn step(mut self, text: &[u8], hang: u16, depth: u16) -> Draft
+    pub fn step(self, text: &[u8], hang: u16, depth: u16) -> Draft
         requires { ⌜ MayRead (now text) hang depth self ⌝ }
         ensures { λ r. ⌜ StepRead (now (text .entry)) hang depth self r ⌝ }
     {
         let length = step_length(text, self.at as usize);
         if length == 0 {
-            self.broken = true; // No step stands here.
-            return self;
+            return blank_draft(true); // No step stands here.
         }
         self.with(length, hang, depth)
     }
@@ -112,9 +111,11 @@ impl Draft {
         requires { ⌜ length (now text) ≤ mostText ⌝ }
         ensures { λ r. ⌜ LeftBracket (now (text .entry)) me self r ⌝ }
     {
+        if self.broken {
+            return blank_draft(true);
+        }
         if !shuts(text, self.at as usize) {
-            self.broken = true; // No `]` stands here.
-            return self;
+            return blank_draft(true); // No `]` stands here.
         }
         self.at = self.at + 1;
         self.last = me;
@@ -134,9 +135,9 @@ pub fn blank_steps() -> [Step; Step::MOST]
     [none; Step::MOST]
 }
 
-// The draft before the first byte.
-pub fn fresh_draft() -> Draft
-    ensures { λ r. ⌜ r ≡ fresh ⌝ }
+// A draft that holds nothing but whether the text is broken: the one before the first byte, and that of a broken text.
+pub fn blank_draft(broken: bool) -> Draft
+    ensures { λ r. ⌜ r ≡ blankDraft broken ⌝ }
 {
     let steps = blank_steps();
     Draft {
@@ -145,6 +146,6 @@ pub fn fresh_draft() -> Draft
         deepest: 0,
         at: 0,
         last: 0,
-        broken: false,
+        broken: broken,
     }
 }

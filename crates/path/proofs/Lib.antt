@@ -2,4 +2,5 @@
 pub mod Sizes
 pub mod Growths
 pub mod Reaching
+pub mod Fixed
 pub mod PathLoop

@@ -11,8 +11,9 @@ use Rattle.meaning.specs.Notation.{steps, depth}
 use Rattle.meaning.specs.Ends.{Stops}
 use Rattle.meaning.proofs.Laws.Step.{steps-some}
 use Rattle.draft.specs.declared.Draft.{Draft}
-use Rattle.draft.specs.Drafts.{moved, grown, stepped}
+use Rattle.draft.specs.Drafts.{brokenDraft, moved, grown, stepped}
 use Rattle.draft.specs.Steps.{MayRead, FoundStep, StepRead, taken, missing, ShutAt, LeftBracket, shut, unshut}
+use Rattle.draft.proofs.Blank.{is-broken}
 use Rattle.draft.proofs.Bytes.{byte-is}
 use Rattle.draft.proofs.Closing.{not-both, end-stops}
 use Rattle.path.specs.Stored.{size}
@@ -37,12 +38,12 @@ pub record Going (t : List ℕ) (d : ℕ) (q₀ q : Draft) : Type 0 where
 -- The loop's invariant: it goes on, or it has found that nothing is reached from where it began.
 pub data PathState (t : List ℕ) (d : ℕ) (q₀ q : Draft) : Type 0 where
   on : Going t d q₀ q → PathState t d q₀ q
-  lost : q .broken ≡ true → (q₀ .broken ≡ false → (x : Draft) → Reach t d q₀ x → ⊥) → PathState t d q₀ q
+  lost : q ≡ brokenDraft → (q₀ .broken ≡ false → (x : Draft) → Reach t d q₀ x → ⊥) → PathState t d q₀ q
 
 -- A loop that has found nothing broken goes on.
 pub still-on : {t : List ℕ} {d : ℕ} {q₀ q : Draft} → PathState t d q₀ q → q .broken ≡ false → Going t d q₀ q
 still-on (on g) e = g
-still-on (lost b n) e = absurd (not-both b e)
+still-on (lost b n) e = absurd (not-both (is-broken b) e)
 
 -- Where no path can end, the text goes on.
 pub goes-on : (t : List ℕ) (at : ℕ) → (Stops (drop at t) → ⊥) → at < length t
@@ -106,7 +107,7 @@ behind-path {t} {hang} {d} {q} {r} p =
 -- A step that is read moves on, or finds the text broken.
 pub step-moves : {t : List ℕ} {hang d : ℕ} {q r : Draft} → StepRead t hang d q r → r .broken ≡ false → q .at < r .at
 step-moves {t} {hang} {d} {q} {r} (taken f w) e = behind-step hang d q r f w .moves
-step-moves (missing b n) e = absurd (not-both b e)
+step-moves (missing b n) e = absurd (not-both (is-broken b) e)
 
 -- Where the loop begins: behind the first step, if one stands there.
 pub start : {t : List ℕ} {hang d : ℕ} {q r : Draft} → MayRead t hang d q → StepRead t hang d q r → PathState t d r r
@@ -127,7 +128,7 @@ start {t} {hang} {d} {q} {r} h (taken f w) =
       to = λ x y. y;
       back = λ x y. y;
     })
-start h (missing b n) = lost b (λ e. absurd (not-both b e))
+start h (missing b n) = lost b (λ e. absurd (not-both (is-broken b) e))
 
 -- The loop at q.
 module _ {t : List ℕ} {d : ℕ} {q₀ q : Draft} (g : Going t d q₀ q) where
@@ -188,7 +189,7 @@ module _ {t : List ℕ} {d : ℕ} {q₀ q : Draft} (g : Going t d q₀ q) where
   bracket-turn {p} e (whole y) (unshut b n) = lost b (λ _ x l.
       let s = to-bracket t e (g .to x l) in
       n (behind-path y .sound ∙ g .sound) (subst (λ (u : Draft). ShutAt t (u .at)) (one-path t (s .walk) y) (s .close)))
-  bracket-turn e (torn b n) (shut s z w) = absurd (not-both b s)
+  bracket-turn e (torn b n) (shut s z w) = absurd (not-both (is-broken b) s)
   bracket-turn e (torn b n) (unshut c m) = lost c (λ _ x l. n _ (to-bracket t e (g .to x l) .walk))
 
   -- The same, where what the path hangs from and how deep it is are given by numbers that have to be the right ones.
@@ -201,8 +202,8 @@ module _ {t : List ℕ} {d : ℕ} {q₀ q : Draft} (g : Going t d q₀ q) where
   pub bracket-moves : {hang e : ℕ} {p r : Draft} → PathRead t hang e (moved q (q .at + 1) (q .last)) p → LeftBracket t (q .last) p r → r .broken ≡ false → q .at < r .at
   unfolding moved
   bracket-moves (whole y) (shut s z w) e = omega (arith, behind-path y .moves, ap (λ (x : Draft). x .at) w)
-  bracket-moves (torn b n) (shut s z w) e = absurd (not-both b s)
-  bracket-moves y (unshut b n) e = absurd (not-both b e)
+  bracket-moves (torn b n) (shut s z w) e = absurd (not-both (is-broken b) s)
+  bracket-moves y (unshut b n) e = absurd (not-both (is-broken b) e)
 
   -- A turn with a further step.
   pub again-next : {r : Draft} → (Stops (drop (q .at) t) → ⊥) → ((s : List ℕ) → drop (q .at) t ≡ 91 ∷ s → ⊥) → StepRead t (q .last) d q r → PathState t d q₀ r
@@ -229,5 +230,5 @@ module _ {t : List ℕ} {d : ℕ} {q₀ q : Draft} (g : Going t d q₀ q) where
 pub ended : {t : List ℕ} {hang d : ℕ} {q q₀ r : Draft} → q .broken ≡ false → StepRead t hang d q q₀ → PathState t d q₀ r → (r .broken ≡ false → Stops (drop (r .at) t)) → PathRead t hang d q r
 ended {t} {hang} {d} {q} {q₀} {r} e (taken f w) (on g) s = whole (shut-path t f w (g .back r (at-end t (g .deep) (s (g .sound)))))
 ended {t} {hang} {d} {q} {q₀} {r} e (taken f w) (lost b n) s = torn b (λ x y. n (behind-step hang d q q₀ f w .sound ∙ e) x (open-path t f w y))
-ended e (missing b n) (on g) s = absurd (not-both b (g .began))
+ended e (missing b n) (on g) s = absurd (not-both (is-broken b) (g .began))
 ended {t} e (missing b n) (lost c m) s = torn c (λ x y. no-path t n y)

@@ -1,13 +1,12 @@
 -- What reading a path promises: the draft behind the path that stands there, or that none does.
 use Prim.Native.Nat.{ℕ, _+_}
 use mathlib.Core.Path.{_≡_}
-use mathlib.Core.Bool.{true}
 use mathlib.Core.List.{List}
 use lib.ListN.{drop}
 use Rattle.meaning.specs.Notation.{Path, After, write, writeAfter, Named, NamedAfter, depth, depthAfter, lastStep, lastAfter}
 use Rattle.meaning.specs.Ends.{Stops}
 use Rattle.draft.specs.declared.Draft.{Draft}
-use Rattle.draft.specs.Drafts.{grown}
+use Rattle.draft.specs.Drafts.{brokenDraft, grown}
 use Rattle.path.specs.Stored.{size, sizeAfter, stored, storedAfter}
 
 -- The draft behind a path that stands where q is, in d brackets, and whose first step hangs from number `hang`.
@@ -34,7 +33,7 @@ pub record ReachPath (t : List ℕ) (hang d : ℕ) (q q′ : Draft) : Type 0 whe
   pub halts : Stops (drop (q′ .at) t)
   pub gives : q′ ≡ walked q hang d tree
 
--- Reading a path gives r: the draft behind the path, or a broken one where no path stands.
+-- Reading a path gives r: the draft behind the path, or the broken one where no path stands.
 pub data PathRead (t : List ℕ) (hang d : ℕ) (q r : Draft) : Type 0 where
   whole : ReachPath t hang d q r → PathRead t hang d q r
-  torn : r .broken ≡ true → ((q′ : Draft) → ReachPath t hang d q q′ → ⊥) → PathRead t hang d q r
+  torn : r ≡ brokenDraft → ((q′ : Draft) → ReachPath t hang d q q′ → ⊥) → PathRead t hang d q r

@@ -11,8 +11,9 @@ use Rattle.meaning.specs.declared.Step.{Step}
 use Rattle.meaning.specs.Limits.{mostText, mostSteps}
 use Rattle.meaning.specs.Notation.{nothing, write, Follows, steps, depth, lastStep, returnedStep, NotFollowing}
 use Rattle.draft.specs.declared.Draft.{Draft}
-use Rattle.draft.specs.Drafts.{blankStep, filledUp, fresh, grown}
+use Rattle.draft.specs.Drafts.{blankStep, filledUp, blankDraft, fresh, grown}
 use Rattle.draft.specs.Steps.{MayRead}
+use Rattle.draft.proofs.Blank.{is-broken}
 use Rattle.draft.proofs.Closing.{not-both}
 use Rattle.path.specs.Stored.{size, stored}
 use Rattle.path.specs.Reach.{walked, ReachPath, PathRead, whole, torn}
@@ -34,32 +35,32 @@ sets-blank m xs h =
 
 -- The draft before the first byte has no step.
 fresh-count : fresh .count ≡ 0
-unfolding fresh
+unfolding blankDraft
 fresh-count = refl
 
 -- It stands at the first byte.
 fresh-at : fresh .at ≡ 0
-unfolding fresh
+unfolding blankDraft
 fresh-at = refl
 
 -- It has gone into no bracket.
 fresh-deepest : fresh .deepest ≡ 0
-unfolding fresh
+unfolding blankDraft
 fresh-deepest = refl
 
 -- Steps put into its entries.
 fresh-sets : (xs : List Step) → length xs ≤ mostSteps → sets (fresh .steps) 0 xs ≡ filledUp xs
-unfolding fresh
+unfolding blankDraft
 fresh-sets xs h = sets-blank mostSteps xs h
 
 -- It is not broken.
 fresh-sound : fresh .broken ≡ false
-unfolding fresh
+unfolding blankDraft
 fresh-sound = refl
 
 -- It is ready for a first step that hangs from nothing.
 pub fresh-ready : {t : List ℕ} {q : Draft} → q ≡ fresh → length t ≤ mostText → MayRead t 255 0 q
-unfolding fresh
+unfolding blankDraft
 fresh-ready {t} {q} e h = subst (λ (x : Draft). MayRead t 255 0 x) (sym e) (record {
   sound = refl;
   short = h;
@@ -132,7 +133,7 @@ module _ {t : List ℕ} {q₀ q : Draft} (w : q₀ ≡ fresh) (r : PathRead t 25
     where
       go : PathRead t 255 0 fresh q → ReachPath t 255 0 fresh q
       go (whole y) = y
-      go (torn f n) = absurd (not-both f e)
+      go (torn f n) = absurd (not-both (is-broken f) e)
 
   -- It ends within the text.
   pub some-within : q .broken ≡ false → q .at ≤ length t

@@ -1,6 +1,6 @@
 // The reading of a question.
+use draft::blank_draft;
 use draft::blank_steps;
-use draft::fresh_draft;
 use meaning::Question;
 use meaning::Step;
 use path::read_path;
@@ -37,7 +37,7 @@ pub fn read(text: &[u8]) -> Reading
     if text.len() > Question::MOST_BYTES {
         return refused(7, blank);
     }
-    let d = read_path(text, Step::NOTHING as u16, 0, fresh_draft());
+    let d = read_path(text, Step::NOTHING as u16, 0, blank_draft(false));
     if d.broken {
         return refused(8, blank); // No path stands there.
     }

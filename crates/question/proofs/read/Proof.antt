@@ -29,11 +29,11 @@ short e = omega arith
 cast-read-path : tie.Need-cast-read-path
 cast-read-path c = search needs
 
-fresh-draft-requires : tie.Need-fresh-draft-requires
-fresh-draft-requires c κs = search needs
+blank-draft-requires : tie.Need-blank-draft-requires
+blank-draft-requires c κs = search needs
 
 read-path-requires : tie.Need-read-path-requires
-read-path-requires c κs = fresh-ready (c .fresh-draft .ensures) (short (c .before))
+read-path-requires c κs = fresh-ready (c .blank-draft .ensures) (short (c .before))
 
 refused-requires-2 : tie.Need-refused-requires-2
 refused-requires-2 c κs = search needs
@@ -43,7 +43,7 @@ returns-2 c =
     let r = c .before .before in
     let b = r .before .before .before .blank-steps .ensures in
     let s = short (r .before .before) in
-    let w = r .before .fresh-draft .ensures in
+    let w = r .before .blank-draft .ensures in
     no-tree b s (broken-follows w (r .read-path .ensures) (c .before .if2 .taken)) (c .refused2 .ensures)
 
 cast-rest : tie.Need-cast-rest
@@ -52,7 +52,7 @@ cast-rest c = search needs
 sub-rest : tie.Need-sub-rest
 sub-rest c =
     let r = c .before .before in
-    some-within (r .before .fresh-draft .ensures) (r .read-path .ensures) (c .before .if2 .left)
+    some-within (r .before .blank-draft .ensures) (r .read-path .ensures) (c .before .if2 .left)
 
 refused-requires-3 : tie.Need-refused-requires-3
 refused-requires-3 c κs = search needs
@@ -62,7 +62,7 @@ returns-3 c =
     let r = c .before .before .before .before in
     let b = r .before .before .before .blank-steps .ensures in
     let s = short (r .before .before) in
-    let w = r .before .fresh-draft .ensures in
+    let w = r .before .blank-draft .ensures in
     no-tree b s (rest-follows w (r .read-path .ensures) (c .before .before .before .if2 .left) (omega arith)) (c .refused3 .ensures)
 
 cast-count : tie.Need-cast-count
@@ -76,7 +76,7 @@ returns-4 c =
     let r = c .before .before .before .before .before .before .before in
     let b = r .before .before .before .blank-steps .ensures in
     let s = short (r .before .before) in
-    let w = r .before .fresh-draft .ensures in
+    let w = r .before .blank-draft .ensures in
     let h = all-held w (r .read-path .ensures) (c .before .before .before .before .before .before .if2 .left) (omega arith) in
     over-large b s (h .writes) (inl (omega (arith, h .count))) (c .refused4 .ensures)
 
@@ -91,7 +91,7 @@ returns-5 c =
     let r = c .before .before .before .before .before .before .before .before .before in
     let b = r .before .before .before .blank-steps .ensures in
     let s = short (r .before .before) in
-    let w = r .before .fresh-draft .ensures in
+    let w = r .before .blank-draft .ensures in
     let h = all-held w (r .read-path .ensures) (c .before .before .before .before .before .before .before .before .if2 .left) (omega arith) in
     over-large b s (h .writes) (inr (omega (arith, h .deepest))) (c .refused5 .ensures)
 
@@ -101,7 +101,7 @@ cast-returned c = search needs
 returns-6 : tie.Need-returns-6
 returns-6 c =
     let r = c .before .before .before .before .before .before .before .before .before in
-    let h = all-held (r .before .fresh-draft .ensures) (r .read-path .ensures) (c .before .before .before .before .before .before .before .before .if2 .left) (omega arith) in
+    let h = all-held (r .before .blank-draft .ensures) (r .read-path .ensures) (c .before .before .before .before .before .before .before .before .if2 .left) (omega arith) in
     as-read (short (r .before .before)) h (omega arith) (omega arith)
 
 pub read-spec : {M : Type 1} → statement M
@@ -112,7 +112,7 @@ read-spec =
     refused-requires
     returns
     cast-read-path
-    fresh-draft-requires
+    blank-draft-requires
     read-path-requires
     refused-requires-2
     returns-2

@@ -15,7 +15,9 @@ use Rattle.meaning.specs.Labels.{Place}
 use Rattle.open.specs.declared.Open.{Open}
 use Rattle.open.specs.Entries.{entry}
 use Rattle.turn.specs.declared.State.{State}
-use Rattle.turn.specs.Sweep.{Judged, Turned}
+use Rattle.turn.specs.Sweep.{Turned}
+use Rattle.turn.proofs.Stack.{Judged}
+use Rattle.turn.proofs.Judging.{turn-judged}
 use Rattle.turn.proofs.State as S
 use Rattle.turn.proofs.State.Laws as S′
 use Rattle.day.proofs.Rounds.{AtTurn, Round, reread, weight, round-less, round-push, round-pop}
@@ -53,7 +55,7 @@ module _ (ix : List ℕ) (m : ℕ) (tr ps : List ℕ) (s : State) (ys : List Ope
   module _ (tr′ ps′ : List ℕ) (s′ : State) (turned : Turned ix m tr ps s tr′ ps′ s′) where
     -- What the turn made of the state.
     pub judged : Judged ix m tr ps (stands .0) s tr′ ps′ s′
-    judged = turned (stands .0) (stands .1 .swept) (stands .1 .inner)
+    judged = turn-judged ix m tr ps s (stands .1 .ready) tr′ ps′ s′ (stands .0) (stands .1 .swept) (stands .1 .inner) turned
 
     -- It lowered the weight.
     pub lowers : weight ix ps′ s′ < weight ix ps s

@@ -19,7 +19,8 @@ use Rattle.order.proofs.Left.{left, left-falls}
 use Rattle.open.specs.declared.Open.{Open}
 use Rattle.open.specs.Entries.{blank, entry}
 use Rattle.turn.specs.declared.State.{State}
-use Rattle.turn.specs.Sweep.{Swept, pushed, Same, Innermost, BeforeTurn, Judged, over, closing, opening}
+use Rattle.turn.specs.Sweep.{BeforeTurn}
+use Rattle.turn.proofs.Stack.{Swept, pushed, Same, Innermost, Judged, over, closing, opening}
 use Rattle.turn.proofs.Sweeping.{pushed-below, pushed-top}
 use Rattle.day.specs.FirstTurn.{Fresh}
 

@@ -10,7 +10,7 @@ use Rattle.meaning.specs.Labels.{Lists, Place, Holds, Nested}
 use Rattle.order.specs.Walk.{startOf, Seen, Waits, Sorted, next, Comes, Moved}
 use Rattle.order.proofs.WalkLaws.{below-or, precedes-le, seen-old, seen-new, seen-next, waits-old}
 use Rattle.lists.specs.Ordering.{Ordered}
-use Rattle.turn.specs.Sweep.{LiesIn, Before, Fine, Swept, pushed}
+use Rattle.turn.proofs.Stack.{LiesIn, Before, Fine, Swept, pushed}
 use Rattle.turn.proofs.Sweeping.{fine-sym, pushed-below, pushed-top}
 
 module _ (t : Lists) (law : Ordered t) (pos : ℕ → ℕ) (stack : ℕ → Place) (depth r : ℕ) (w : Swept t pos stack depth) (sorted : Sorted t pos) (comes : Comes t pos r)

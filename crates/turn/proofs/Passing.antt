@@ -7,7 +7,7 @@ use Rattle.meaning.specs.Labels.{Lists, Place, labelOf, Holds, Share, Cross, Ta
 use Rattle.lists.specs.Ordering.{Ordered}
 use Rattle.order.specs.Walk.{startOf, endOf, Done}
 use Rattle.order.proofs.WalkLaws.{done-seen}
-use Rattle.turn.specs.Sweep.{Fine, Swept}
+use Rattle.turn.proofs.Stack.{Fine, Swept}
 
 -- Two pairs of ordered numbers that are nested or apart have no number in common.
 none-shared : (a b c d : ℕ) → a < b → c < d → ((c < a) × (b < d)) ⊎ ((a < c) × (d < b)) ⊎ (b < c) ⊎ (d < a) → (a ≡ c) ⊎ (a ≡ d) ⊎ (b ≡ c) ⊎ (b ≡ d) → ⊥

@@ -9,7 +9,7 @@ use borrow.Author.Tests.{lt-ltb, le-ltb}
 use Rattle.meaning.specs.Labels.{Lists, Place, labelOf, Share, Cross, Clash}
 use Rattle.order.specs.Walk.{startOf, endOf, Waits, Sorted, next, Comes}
 use Rattle.order.proofs.WalkLaws.{below-or, precedes-le}
-use Rattle.turn.specs.Sweep.{Before, Fine, Swept, pushed}
+use Rattle.turn.proofs.Stack.{Before, Fine, Swept, pushed}
 
 -- Below the top a pushed record changes nothing.
 pub pushed-below : (stack : ℕ → Place) (depth : ℕ) (x : Place) (k : ℕ) → k < depth → pushed stack depth x k ≡ stack k

@@ -1,8 +1,8 @@
 -- One turn of the sweep, over plain lists: each way that it can end.
-use Prim.Native.Nat.{ℕ, suc, _-_, _≤_, _<_}
+use Prim.Native.Nat.{ℕ, suc, _+_, _-_, _≤_, _<_}
 use native.Mathlib.Nat.{eq-or-lt-of-le}
 use native.Mathlib.Omega.{arith}
-use mathlib.Core.Path.{_≡_, sym, subst, _∙_}
+use mathlib.Core.Path.{_≡_, refl, sym, subst, _∙_}
 use mathlib.Core.Logic.{_⊎_, inl, inr, _≢_, ⊎-elim}
 use Rattle.meaning.specs.Limits.{mostNested}
 use Rattle.meaning.specs.Labels.{Lists, Place, Tangled}
@@ -11,21 +11,23 @@ use Rattle.order.specs.Walk.{startOf, endOf, Sorted, next, Comes, Moved}
 use Rattle.order.proofs.WalkLaws.{precedes-le}
 use Rattle.lists.specs.Ordering.{Ordered}
 use Rattle.turn.specs.declared.State.{State}
-use Rattle.turn.specs.Sweep.{LiesIn, Swept, pushed, Closes, Refuses, Same, Innermost, Topmost, ClosesOne, OpensOne}
+use Rattle.turn.specs.States.{closedState, openedState}
+use Rattle.turn.specs.Sweep.{Closes, Refuses}
+use Rattle.turn.proofs.Stack.{LiesIn, Swept, pushed, Same, Innermost, ClosesOne, OpensOne}
 use Rattle.turn.proofs.Sweeping.{sweep-pop, sweep-clash}
 use Rattle.turn.proofs.Opening.{sweep-deep, sweep-push}
 
 module _ (t : Lists) (law : Ordered t) (pos : ℕ → ℕ) (s : State) (stack : ℕ → Place) (swept : Swept t pos stack (s .depth)) (inner : Innermost t stack s) (sorted : Sorted t pos) (r start : ℕ) (comes : Comes t pos r) (start-is : start ≡ startOf t (next pos r)) where
   -- The innermost record ends before the next label starts: it is closed.
-  pub turn-close : (s′ : State) → Closes (s .depth) (s .inner) start → s′ .depth ≡ s .depth - 1 → Topmost s′ → s′ .least ≡ s .least → ClosesOne t pos stack s s′
-  turn-close s′ c e top same = record {
+  pub turn-close : Closes (s .depth) (s .inner) start → ClosesOne t pos stack s (closedState (s .depth - 1) (s .least))
+  turn-close c = record {
     one = one;
-    top = top;
-    swept = sweep-pop t pos stack (s .depth) r swept sorted comes (s′ .depth) one (omega (arith, c .1, inner (s′ .depth) one .end, start-is));
-    least = same;
+    top = λ k e. omega arith;
+    swept = sweep-pop t pos stack (s .depth) r swept sorted comes (s .depth - 1) one (omega (arith, c .1, inner (s .depth - 1) one .end, start-is));
+    least = refl;
   }
     where
-      one : s .depth ≡ suc (s′ .depth)
+      one : s .depth ≡ suc (s .depth - 1)
       one = omega (arith, c .0)
 
   module _ (end : ℕ) (end-is : end ≡ endOf t (next pos r)) (stays : Closes (s .depth) (s .inner) start → ⊥) where
@@ -62,19 +64,21 @@ module _ (t : Lists) (law : Ordered t) (pos : ℕ → ℕ) (s : State) (stack : 
             (or-not (eq-decides (s .inner .start) start))
 
     -- A record that is not refused is opened.
-    pub turn-open : (Refuses (s .depth) (s .inner) start end → ⊥) → s .depth < mostNested → (pos′ : ℕ → ℕ) → Moved pos pos′ r
-        → (s′ : State) → s′ .depth ≡ suc (s .depth) → s′ .at ≡ s .depth → s′ .inner .start ≡ start → s′ .inner .end ≡ end → s′ .inner .list ≡ r → OpensOne t pos pos′ stack s s′
-    turn-open free room pos′ moved s′ one top starts ends lists = record {
+    pub turn-open : (Refuses (s .depth) (s .inner) start end → ⊥) → s .depth < mostNested → (pos′ : ℕ → ℕ) → Moved pos pos′ r → (least : ℕ) → OpensOne t pos pos′ stack s (openedState (s .depth) start end r least)
+    turn-open free room pos′ moved least = record {
       list = r;
       holds = comes .waits .holds;
       moved = moved;
       one = one;
       room = room;
-      top = top;
-      same = record { start = starts ∙ start-is; end = ends ∙ end-is; list = lists };
+      top = refl;
+      same = record { start = start-is; end = end-is; list = refl };
       swept = subst (λ (n : ℕ). Swept t pos′ (pushed stack (s .depth) (next pos r)) n) (sym one) (sweep-push t law pos stack (s .depth) r swept sorted comes top-in pos′ moved room);
     }
       where
+        one : s .depth + 1 ≡ suc (s .depth)
+        one = omega arith
+
         top-in : (k : ℕ) → s .depth ≡ suc k → LiesIn t (next pos r) (stack k)
         top-in k e = let some : 0 < s .depth = omega arith in inside k e (λ q. free (some, inl q)) (⊎-elim (λ l. absurd (free (some, inr (inl l)))) (λ n. omega arith) (or-not (le-decides (s .inner .end) end)))
 

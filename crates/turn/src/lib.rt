@@ -1,10 +1,10 @@
 // One turn of the sweep of all lists in order of start, with all its decisions; the loop and the table are the caller's.
 ghost use mathlib.Core.Path.{_≡_};
-ghost use Prim.Native.Nat.{ℕ, suc, _<_, _≤_};
-ghost use mathlib.Core.Bool.{true, false};
+ghost use Prim.Native.Nat.{_-_, _<_};
 ghost use Rattle.meaning.specs.Limits.{mostNested};
 ghost use Rattle.meaning.specs.Answers.{Decides};
-ghost use Rattle.turn.specs.Sweep.{Closes, Refuses, Topmost, BeforeTurn, Turned};
+ghost use Rattle.turn.specs.States.{overState, closedState, openedState};
+ghost use Rattle.turn.specs.Sweep.{Closes, Refuses, BeforeTurn, Turned};
 use meaning::Index;
 use meaning::Label;
 use open::Open;
@@ -28,7 +28,7 @@ pub struct State {
 
 // The state when the sweep is over.
 fn over(wrong: bool) -> State
-    ensures { λ s. ⌜ (s .going ≡ false) × (s .wrong ≡ wrong) × (s .put ≡ false) × (s .at < mostNested) ⌝ }
+    ensures { λ s. ⌜ s ≡ overState wrong ⌝ }
 {
     State {
         going: false,
@@ -47,8 +47,7 @@ fn over(wrong: bool) -> State
 
 // The place of the last of the open records, and 0 if none is open.
 fn place_of(depth: usize) -> usize
-    requires { ⌜ depth ≤ mostNested ⌝ }
-    ensures { λ r. ⌜ (r < mostNested) × ((k : ℕ) → depth ≡ suc k → r ≡ k) ⌝ }
+    ensures { λ r. ⌜ r ≡ depth - 1 ⌝ }
 {
     if depth == 0 {
         return 0;
@@ -58,8 +57,7 @@ fn place_of(depth: usize) -> usize
 
 // The state when `depth` records are open, the innermost of them is to come from the table, and `least` is the walk's number.
 pub fn closed(depth: usize, least: u64) -> State
-    requires { ⌜ depth ≤ mostNested ⌝ }
-    ensures { λ s. ⌜ (s .going ≡ true) × (s .put ≡ false) × (s .at < mostNested) × (s .depth ≡ depth) × Topmost s × (s .least ≡ least) ⌝ }
+    ensures { λ s. ⌜ s ≡ closedState depth least ⌝ }
 {
     State {
         going: true,
@@ -79,7 +77,7 @@ pub fn closed(depth: usize, least: u64) -> State
 // The state when a record is opened inside `depth` others, and `least` is the walk's number then.
 fn opened(depth: usize, start: u32, end: u32, list: u32, least: u64) -> State
     requires { ⌜ depth < mostNested ⌝ }
-    ensures { λ s. ⌜ (s .going ≡ true) × (s .put ≡ true) × (s .at ≡ depth) × (s .depth ≡ suc depth) × (s .inner .start ≡ start) × (s .inner .end ≡ end) × (s .inner .list ≡ list) × (s .least ≡ least) ⌝ }
+    ensures { λ s. ⌜ s ≡ openedState depth start end list least ⌝ }
 {
     State {
         going: true,

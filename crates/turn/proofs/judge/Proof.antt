@@ -1,21 +1,19 @@
--- `turn::judge` meets its contract: the walk says which label comes next, and each way that a turn can end is a law of `Turning`.
+-- `turn::judge` meets its contract: the walk says which label comes next, and each way out is a case of what a turn decides.
 use Prim.Native.Nat.{ℕ, _<_}
 use native.Mathlib.Omega.{arith}
-use mathlib.Core.Path.{refl, sym, subst}
-use mathlib.Core.Bool.{Bool}
+use mathlib.Core.Path.{refl, subst}
 use mathlib.Core.List.{List}
 use borrow.Author.Needs.{needs}
 use Rattle.meaning.specs.Limits.{mostNested}
-use Rattle.meaning.specs.Labels.{Tangled}
-use Rattle.meaning.specs.Answers.{Decides, holds, fails}
 use Rattle.meaning.specs.Day.{listsOf}
 use Rattle.meaning.proofs.Decide.{if-true, if-false}
 use Rattle.order.specs.declared.Coming.the-variants.{Label}
 use Rattle.order.specs.Walk.{Foretells}
-use Rattle.order.specs.Standing.{cursor, Names}
-use Rattle.turn.specs.Sweep.{Refuses, over, closing, opening}
-use Rattle.turn.proofs.Passing.{sweep-end}
-use Rattle.turn.proofs.Turning.{turn-close, turn-refuse, turn-open, turn-room}
+use Rattle.order.specs.Standing.{cursor}
+use Rattle.turn.specs.declared.State.{State}
+use Rattle.turn.specs.Sweep.{Refuses, Turned, ends, closes, refuses, opens}
+use Rattle.turn.proofs.Turning.{turn-room}
+use Rattle.turn.proofs.Judging.{turned-fits}
 use Rattle.turn.proofs.judge.Statement.{statement}
 use Rattle.turn.proofs.judge.Tie as tie
 
@@ -54,6 +52,14 @@ free c = if-false (c .before .refused .ensures) (c .if2 .left)
 room : (c : tie.Else2) → start (label₂ (c .before)) .args .s .depth < mostNested
 room c = let k = start (label₂ (c .before)) in turn-room (k .args .s) _ _ (k .pre .shallow) (free c)
 
+-- What the turn promises of an outcome.
+abbrev Promise : tie.Start → List ℕ → List ℕ → State → Type 0
+Promise k tree′ places′ s′ = Turned (bytes k) (k .args .m) (k .args .tree .now) (k .args .places .now) (k .args .s) tree′ places′ s′
+
+-- That the place lies in the table follows from it.
+fitting : (k : tie.Start) (tree′ places′ : List ℕ) (s′ : State) → Promise k tree′ places′ s′ → Promise k tree′ places′ s′ × (s′ .at < mostNested)
+fitting k tree′ places′ s′ t = (t, turned-fits (bytes k) (k .args .m) (k .args .tree .now) (k .args .places .now) (k .args .s) (k .pre) tree′ places′ s′ t)
+
 comes-next-requires : tie.Need-comes-next-requires
 comes-next-requires c κs = search needs
 
@@ -71,7 +77,7 @@ returns c =
     let a = c .before .before .before in
     let k = entry a in
     let done = subst (Foretells (listsOf (bytes k)) (cursors k)) (c .before .enum-told .given .1) (a .comes-next .ensures) in
-    (λ stack swept inner. over (c .over .ensures .0) (c .over .ensures .2) (subst (λ (w : Bool). Decides (Tangled (listsOf (bytes k))) w) (sym (c .over .ensures .1)) (fails (sweep-end (listsOf (bytes k)) (k .pre .ordered) (cursors k) stack _ swept done))), c .over .ensures .3)
+    fitting k _ _ _ (ends done (c .over .ensures) refl refl)
 
 closes-requires : tie.Need-closes-requires
 closes-requires c κs = search needs
@@ -86,9 +92,7 @@ returns-2 : tie.Need-returns-2
 returns-2 c =
     let d = c .before .before in
     let a = label₁ d in
-    let k = start a in
-    let e = c .closed .ensures in
-    (λ stack swept inner. closing (e .0) (e .1) refl refl (turn-close (listsOf (bytes k)) (k .pre .ordered) (cursors k) (k .args .s) stack swept inner (k .pre .walk .sorted) _ _ (told a .0) (told a .2) (c .closed .result) (if-true (d .closes .ensures) (c .before .if1 .taken)) (e .3) (e .4) (e .5)), e .2)
+    fitting (start a) _ _ _ (closes _ _ _ _ (told a) (if-true (d .closes .ensures) (c .before .if1 .taken)) (c .closed .ensures) refl refl)
 
 refused-requires : tie.Need-refused-requires
 refused-requires c κs = search needs
@@ -101,8 +105,7 @@ returns-3 c =
     let r = c .before .before in
     let d = r .before in
     let a = label₂ r in
-    let k = start a in
-    (λ stack swept inner. over (c .over2 .ensures .0) (c .over2 .ensures .2) (subst (λ (w : Bool). Decides (Tangled (listsOf (bytes k))) w) (sym (c .over2 .ensures .1)) (holds (turn-refuse (listsOf (bytes k)) (k .pre .ordered) (cursors k) (k .args .s) stack swept inner (k .pre .walk .sorted) _ _ (told a .0) (told a .2) _ (told a .3) (if-false (d .before .closes .ensures) (d .if1 .left)) (if-true (r .refused .ensures) (c .before .if2 .taken))))), c .over2 .ensures .3)
+    fitting (start a) _ _ _ (refuses _ _ _ _ (told a) (if-false (d .before .closes .ensures) (d .if1 .left)) (if-true (r .refused .ensures) (c .before .if2 .taken)) (c .over2 .ensures) refl refl)
 
 pass-requires : tie.Need-pass-requires
 pass-requires c κs = let a = label₂ (c .before .before .before) in (start a .pre .walk, told a .0)
@@ -121,14 +124,7 @@ returns-4 c =
     let f = p .before .before .before in
     let d = f .before .before in
     let a = label₂ (f .before) in
-    let k = start a in
-    let e = c .opened .ensures in
-    let h = p .pass .ensures in (
-      λ stack swept inner. opening (e .0) (e .1)
-          (record { walk = h .standing; names = subst (λ (n : ℕ). Names (listsOf (bytes k)) (cursor (bytes k) (p .pass .last .1 .1 .1 .0)) n) (sym (e .7)) (h .names); ordered = k .pre .ordered; shallow = omega (arith, e .3, room f) })
-          (turn-open (listsOf (bytes k)) (k .pre .ordered) (cursors k) (k .args .s) stack swept inner (k .pre .walk .sorted) _ _ (told a .0) (told a .2) _ (told a .3) (if-false (d .before .closes .ensures) (d .if1 .left)) (free f) (room f) _ (h .moved) (c .opened .result) (e .3) (e .2) (e .4) (e .5) (e .6)),
-      omega (arith, e .2, room f),
-    )
+    fitting (start a) _ _ _ (opens _ _ _ _ _ (told a) (if-false (d .before .closes .ensures) (d .if1 .left)) (free f) (p .pass .ensures) (c .opened .ensures))
 
 pub judge-spec : {M : Type 1} → statement M
 judge-spec =

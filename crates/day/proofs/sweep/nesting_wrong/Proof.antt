@@ -5,6 +5,7 @@ use borrow.Author.Needs.{needs}
 use lib.ListN.{length, length-replicate}
 use Rattle.meaning.specs.Limits.{mostTags}
 use Rattle.order.specs.Standing.{Begun}
+use Rattle.turn.specs.declared.State.{State}
 use Rattle.day.proofs.sweep.nesting_wrong.Statement.{statement}
 use Rattle.day.proofs.sweep.nesting_wrong.Tie as tie
 
@@ -37,11 +38,12 @@ turns-requires c κs =
     let g = c .before .before .before in
     let t = g .before .before .before .before .before in
     let s = t .before .before in
+    let first = c .closed .ensures in
     record {
-      begun = subst (λ (n : ℕ). Begun (s .args .index .now) (t .tags-of .result) (g .begin .last .1 .1 .0) (g .begin .last .1 .1 .1 .0) n) (sym (c .closed .ensures .5)) (g .begin .ensures);
+      begun = subst (λ (n : ℕ). Begun (s .args .index .now) (t .tags-of .result) (g .begin .last .1 .1 .0) (g .begin .last .1 .1 .1 .0) n) (sym (ap (λ (z : State). z .least) first)) (g .begin .ensures);
       ordered = s .pre .1;
-      going = c .closed .ensures .0;
-      none-open = c .closed .ensures .3;
+      going = ap (λ (z : State). z .going) first;
+      none-open = ap (λ (z : State). z .depth) first;
     }
 
 returns : tie.Need-returns

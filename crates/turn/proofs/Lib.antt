@@ -5,3 +5,4 @@ pub mod Opening
 pub mod Passing
 pub mod Turning
 pub mod Judging
+pub mod Fixed

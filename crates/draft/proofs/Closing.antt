@@ -26,9 +26,9 @@ module _ (t : List ℕ) (at : ℕ) where
   pub end-open : length t ≤ at → ShutAt t at → ⊥
   end-open h e = omega (arith, byte-is t at 93 (drop (at + 1) t) e .0)
 
-  -- Before the text's end a path can end exactly where the byte is `]`.
-  pub byte-stops : at < length t → Decides (Stops (drop at t)) (eqb (getD t at 0) 93)
-  byte-stops h = decides-as (λ e. subst Stops (sym (byte-at t at 93 h e)) refl) (λ s. subst Stops (byte-at t at (getD t at 0) h refl) s) (eq-decides (getD t at 0) 93)
+  -- Before the text's end a path can end exactly where a `]` stands.
+  pub shut-stops : {r : Bool} → at < length t → Decides (ShutAt t at) r → Decides (Stops (drop at t)) r
+  shut-stops h = decides-as (λ e. subst Stops (sym e) refl) (λ s. byte-at t at 93 h (subst Stops (byte-at t at (getD t at 0) h refl) s))
 
   -- There a `]` stands exactly where the byte is `]`.
   pub byte-shuts : at < length t → Decides (ShutAt t at) (eqb (getD t at 0) 93)

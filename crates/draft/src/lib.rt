@@ -49,16 +49,6 @@ fn step_length(text: &[u8], at: usize) -> usize
     length
 }
 
-// Whether a path that has come to `at` ends there: at the text's end or at `]`.
-pub fn ends(text: &[u8], at: usize) -> bool
-    ensures { λ r. ⌜ Decides (Stops (drop at (now (text .entry)))) r ⌝ }
-{
-    if at >= text.len() {
-        return true;
-    }
-    text[at] == b']'
-}
-
 // Whether a `]` stands at `at`.
 fn shuts(text: &[u8], at: usize) -> bool
     ensures { λ r. ⌜ Decides (ShutAt (now (text .entry)) at) r ⌝ }
@@ -67,6 +57,16 @@ fn shuts(text: &[u8], at: usize) -> bool
         return false;
     }
     text[at] == b']'
+}
+
+// Whether a path that has come to `at` ends there: at the text's end or at `]`.
+pub fn ends(text: &[u8], at: usize) -> bool
+    ensures { λ r. ⌜ Decides (Stops (drop at (now (text .entry)))) r ⌝ }
+{
+    if at >= text.len() {
+        return true;
+    }
+    shuts(text, at)
 }
 
 impl Draft {

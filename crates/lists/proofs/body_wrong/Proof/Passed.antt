@@ -14,10 +14,9 @@ use prog.Memory.{Memory}
 use prog.Routine.{Routine}
 use prog.Wp.{Heap}
 use ghost.Atoms.{Atoms, sem}
-use contract.Lifetimes.{Lfts}
 use contract.Monad.{Fun, fact}
 use types.Kit.{Given, Item, ‵, raw, _⊛_, ⋆, _$_, _∵_, !, qed, move, drop, use1, use2, split, join, fsplit, fjoin, suffices, frame, done}
-use denote.RattleType.{RattleType, owns}
+use denote.RattleType.{owns}
 use denote.Laws.{Is}
 use denote.Plain.{uint-makes, bool-makes}
 use denote.Builtin.{u8, u32, bool}
@@ -39,6 +38,7 @@ use Rattle.reader.specs.declared.Reader.{Reader}
 use Rattle.reader.specs.declared.Next.{Next}
 use Rattle.reader.proofs.Reader as T
 use Rattle.reader.proofs.Reader.Laws as T′
+use Rattle.reader.proofs.Held.{B}
 use Rattle.reader.proofs.Next as N
 use Rattle.reader.proofs.Next.Laws as N′
 use Rattle.reader.proofs.new as new
@@ -50,10 +50,6 @@ use Rattle.lists.proofs.Look as S
 use Rattle.lists.proofs.Look.Laws as S′
 use Rattle.lists.proofs.look_at as looks
 use Rattle.lists.proofs.body_wrong as body
-
--- The reader's type, over the signature's lifetimes.
-abbrev pub B : Lfts 1 → RattleType
-B κs = T.the-row (namedLft 1 0 tt κs)
 
 -- The lifetime as the signature names it, and as a local of the body has it.
 abbrev pub α : Lft → NamedLft

@@ -53,7 +53,8 @@ use Rattle.lists.proofs.body_wrong as body
 use Rattle.lists.proofs.body_wrong.Code as code
 use Rattle.lists.proofs.body_wrong.Code.Mir as mirs
 use Rattle.lists.proofs.Looking.{FoundAt, LookPlace, FewerLeft, fewer-left-wf, looked-first, there, fewer-left, looked-next, found-answers}
-use Rattle.lists.proofs.body_wrong.Proof.Passed.{B, α, v, Own, R, mR, OwnR, toldR, toldS, isS, typedR, typedN, typedS, Tok, New, HandOut, MovedOn, LookAt, Ends, to-new, goes-new, new-said, to-hands, goes-hands, hands-said, to-moved, goes-moved, moved-said, to-look, goes-look, look-said, exits}
+use Rattle.reader.proofs.Held.{B}
+use Rattle.lists.proofs.body_wrong.Proof.Passed.{α, v, Own, R, mR, OwnR, toldR, toldS, isS, typedR, typedN, typedS, Tok, New, HandOut, MovedOn, LookAt, Ends, to-new, goes-new, new-said, to-hands, goes-hands, hands-said, to-moved, goes-moved, moved-said, to-look, goes-look, look-said, exits}
 
 module _ {M : Type 1} (𝓤 : URA M) (H : Heap 𝓤) (A : Atoms 𝓤) (W : Given 𝓤 H A) (mem : Memory → SProp 𝓤) (run : Routine → Fun 𝓤) (κ : Lft) (q : Share) (x : RefT (List ℕ)) (𝓣 : Tables 𝓤 H)
     (known-new : Triple 𝓤 (𝓣 .C #reader·new) (New 𝓤 H A mem run)) (known-hands : Triple 𝓤 (𝓣 .C #reader·hand-out) (HandOut 𝓤 H A mem run))

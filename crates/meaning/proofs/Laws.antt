@@ -13,4 +13,5 @@ pub mod Page
 pub mod Walk
 pub mod Table
 pub mod Promise
+pub mod Few
 pub mod Printing

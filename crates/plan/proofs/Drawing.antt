@@ -22,7 +22,7 @@ use Rattle.meaning.proofs.Laws.Bytes.{zero-at}
 use Rattle.meaning.proofs.Laws.Day.{lawful-fit, list-small}
 use Rattle.meaning.proofs.Laws.Notation.{one-tree}
 use Rattle.meaning.proofs.Laws.Step.{hook-upward}
-use Rattle.meaning.proofs.Laws.Promise.{lawful-small}
+use Rattle.meaning.proofs.Laws.Few.{lawful-small}
 use Rattle.contents.proofs.FindLaws.{list-within}
 use Rattle.question.specs.Questions.{hookNumber, kept}
 use Rattle.question.proofs.StoredSteps.{StoredAs, stored-step}

@@ -11,7 +11,7 @@ use Rattle.meaning.specs.Pages.{Paged, TooMany}
 use Rattle.meaning.specs.Refusals.{Table, end, row, Given, Clear, clear, given, Lawful, checkTable, questionTable, callTable}
 use Rattle.meaning.specs.Promises.{Checked, refused, page}
 use Rattle.meaning.proofs.Laws.Table.{above, given-applies, given-first, given-after, clear-both}
-use Rattle.meaning.proofs.Laws.Promise.{never-too-many}
+use Rattle.meaning.proofs.Laws.Few.{never-too-many}
 use Rattle.question.specs.declared.Reading.{Reading}
 use Rattle.question.specs.Promise.{ReadAs, readTable}
 use Rattle.question.specs.Promise as reading

@@ -80,6 +80,31 @@ pub clear-first : (t u : Table) → Clear (followed t u) → Clear t
 clear-first end u c = tt
 clear-first (row m reason rest) u c = (c .0, clear-first rest u (c .1))
 
+pub clear-after : (t u : Table) → Clear (followed t u) → Clear u
+clear-after end u c = c
+clear-after (row m reason rest) u c = clear-after rest u (c .1)
+
+-- A row whose reason never applies where no reason before it does changes nothing: the table gives the same number with it as without it,
+-- and with it no reason applies exactly if without it none does.
+pub given-without : (t u : Table) (n : ℕ) (reason : Type 0) → (Clear t → reason → ⊥) → (m : ℕ) → Given (followed t (row n reason u)) m → Given (followed t u) m
+given-without end u n reason never m (inl g) = absurd (never tt (g .0))
+given-without end u n reason never m (inr g) = g .1
+given-without (row k before rest) u n reason never m (inl g) = inl g
+given-without (row k before rest) u n reason never m (inr g) = inr (g .0, given-without rest u n reason (λ c. never (g .0, c)) m (g .1))
+
+pub given-with : (t u : Table) (n : ℕ) (reason : Type 0) → (Clear t → reason → ⊥) → (m : ℕ) → Given (followed t u) m → Given (followed t (row n reason u)) m
+given-with end u n reason never m g = inr (never tt, g)
+given-with (row k before rest) u n reason never m (inl g) = inl g
+given-with (row k before rest) u n reason never m (inr g) = inr (g .0, given-with rest u n reason (λ c. never (g .0, c)) m (g .1))
+
+pub clear-without : (t u : Table) (n : ℕ) (reason : Type 0) → Clear (followed t (row n reason u)) → Clear (followed t u)
+clear-without end u n reason c = c .1
+clear-without (row k before rest) u n reason c = (c .0, clear-without rest u n reason (c .1))
+
+pub clear-with : (t u : Table) (n : ℕ) (reason : Type 0) → (Clear t → reason → ⊥) → Clear (followed t u) → Clear (followed t (row n reason u))
+clear-with end u n reason never c = (never tt, c)
+clear-with (row k before rest) u n reason never c = (c .0, clear-with rest u n reason (λ d. never (c .0, d)) (c .1))
+
 -- A table gives one number: two verdicts on it are equal.
 pub verdict-one : (t : Table) (m n : ℕ) → Verdict t m → Verdict t n → m ≡ n
 verdict-one t m n (clear c) (clear d) = refl

@@ -5,7 +5,7 @@ use mathlib.Core.Path.{_≡_, refl}
 use mathlib.Core.Bool.{Bool, true, false, not, true≢false}
 use lib.ListN.{length}
 use Rattle.meaning.specs.Limits.{mostLabels}
-use Rattle.meaning.proofs.Laws.Promise.{few-rows}
+use Rattle.meaning.proofs.Laws.Few.{few-rows}
 use borrow.Author.Needs.{needs}
 use Rattle.roadthrum.proofs.Accepted.{accepted, onward}
 use Rattle.roadthrum.proofs.show.show.Statement.{statement}

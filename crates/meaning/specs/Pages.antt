@@ -7,9 +7,7 @@ use mathlib.Core.List.{List, [], _∷_, _++_}
 use lib.Dec.{ltb}
 use lib.ListN.{length, take, drop, getD}
 use Rattle.meaning.specs.declared.Page.{Page}
-use Rattle.meaning.specs.Limits.{mostLabels}
-use Rattle.meaning.specs.Notation.{Follows}
-use Rattle.meaning.specs.Picks.{Asked, Returned, asked}
+use Rattle.meaning.specs.Picks.{Asked, Returned}
 
 -- The list holds i.
 abbrev pub In : ℕ → List ℕ → Type 0
@@ -65,7 +63,3 @@ pub record Refused (n : ℕ) (entry exit : List ℕ) (r : Page) : Type 0 where
   pub rows : r .rows ≡ 0
   pub more : r .more ≡ false
   pub next : r .next ≡ 0
-
--- Refusal 10: more than 1,048,576 records would be returned.
-abbrev pub TooMany : List ℕ → List ℕ → Type 0
-TooMany b text = (f : Follows text) × (all : List ℕ) × Records (asked b (f .tree)) 0 all × (mostLabels < length all)

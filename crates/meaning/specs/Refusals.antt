@@ -5,7 +5,6 @@ use mathlib.Core.Logic.{_⊎_}
 use mathlib.Core.List.{List}
 use Rattle.meaning.specs.Day.{TooShort, OtherVersion, WrongContents, WrongLength, WrongLists, WrongNesting}
 use Rattle.meaning.specs.Notation.{TooLong, NotFollowing, TooLarge}
-use Rattle.meaning.specs.Pages.{TooMany}
 
 -- A table of refusals: a number with its reason, and the rows after it.
 pub data Table : Type 1 where
@@ -22,13 +21,13 @@ abbrev pub checkTable : List ℕ → Table
 checkTable b =
     row 1 (TooShort b) (row 2 (OtherVersion b) (row 3 (WrongContents b) (row 4 (WrongLength b) (row 5 (WrongLists b) (row 6 (WrongNesting b) end)))))
 
--- Rows 7 to 10, which are about the question.
-abbrev pub questionTable : List ℕ → List ℕ → Table
-questionTable b text = row 7 (TooLong text) (row 8 (NotFollowing text) (row 9 (TooLarge text) (row 10 (TooMany b text) end)))
+-- Rows 7 to 9, which are about the question.
+abbrev pub questionTable : List ℕ → Table
+questionTable text = row 7 (TooLong text) (row 8 (NotFollowing text) (row 9 (TooLarge text) end))
 
 -- The table of the answer call and of the evidence call.
 abbrev pub callTable : List ℕ → List ℕ → Table
-callTable b text = followed (checkTable b) (questionTable b text)
+callTable b text = followed (checkTable b) (questionTable text)
 
 -- The number n is given: it is the number of the first row whose reason applies.
 abbrev pub Given : Table → ℕ → Type 0

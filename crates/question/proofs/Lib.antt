@@ -2,5 +2,4 @@
 pub mod Fixed
 pub mod Texts
 pub mod Outcomes
-pub mod ReadTable
 pub mod StoredSteps

@@ -7,15 +7,14 @@ use mathlib.Core.Bool.{Bool, true, false}
 use mathlib.Core.List.{List}
 use lib.ListN.{length}
 use Rattle.meaning.specs.declared.Page.{Page}
-use Rattle.meaning.specs.Pages.{Paged, TooMany}
-use Rattle.meaning.specs.Refusals.{Table, end, row, Given, Clear, clear, given, Lawful, checkTable, questionTable, callTable}
+use Rattle.meaning.specs.Pages.{Paged}
+use Rattle.meaning.specs.Refusals.{Given, Clear, clear, given, Lawful, checkTable, questionTable, callTable}
 use Rattle.meaning.specs.Promises.{Checked, refused, page}
-use Rattle.meaning.proofs.Laws.Table.{above, given-applies, given-first, given-after, clear-both}
-use Rattle.meaning.proofs.Laws.Few.{never-too-many}
+use Rattle.meaning.proofs.Laws.Table.{above, given-applies, question-rising, given-first, given-after, clear-both}
+use Rattle.meaning.proofs.Laws.Few.{few-steps}
 use Rattle.question.specs.declared.Reading.{Reading}
-use Rattle.question.specs.Promise.{ReadAs, readTable}
+use Rattle.question.specs.Promise.{ReadAs}
 use Rattle.question.specs.Promise as reading
-use Rattle.question.proofs.ReadTable.{read-rising, few-steps}
 use Rattle.cursors.specs.Plan.{planOf}
 use Rattle.plan.specs.Drawn.{Asks, Draws}
 use Rattle.pages.specs.RowParts.{PartOf}
@@ -35,33 +34,29 @@ refuses false b text place entry n g = refused g (record { buffer = refl; refusa
 pub refuse-index : (whole : Bool) (b text : List ℕ) (place : ℕ) (entry : List ℕ) (n : ℕ) (r : Page) → Checked b n → n ≢ 0 → r ≡ refusal n → Responds whole b text place entry entry r
 refuse-index whole b text place entry n r (clear c) some e = absurd (some refl)
 refuse-index whole b text place entry n r (given g) some e =
-    subst (λ (x : Page). Responds whole b text place entry entry x) (sym e) (refuses whole b text place entry n (given-first (checkTable b) (questionTable b text) n g))
-
--- The row of the question's table that the reader does not know.
-abbrev lastRow : List ℕ → List ℕ → Table
-lastRow b text = row 10 (TooMany b text) end
+    subst (λ (x : Page). Responds whole b text place entry entry x) (sym e) (refuses whole b text place entry n (given-first (checkTable b) (questionTable text) n g))
 
 -- The question is refused.
 pub refuse-text : (whole : Bool) (b text : List ℕ) (place : ℕ) (entry : List ℕ) (q : Reading) (r : Page) → Lawful b → ReadAs text q → q .refusal ≢ 0 → r ≡ refusal (q .refusal) → Responds whole b text place entry entry r
 refuse-text whole b text place entry q r law (reading.refused {n} g e) some f =
     subst (λ (x : Page). Responds whole b text place entry entry x) (sym (f ∙ ap (λ (x : Reading). refusal (x .refusal)) e))
-    (refuses whole b text place entry n (given-after (checkTable b) (questionTable b text) n law (given-first (readTable text) (lastRow b text) n g)))
+    (refuses whole b text place entry n (given-after (checkTable b) (questionTable text) n law g))
 refuse-text whole b text place entry q r law (reading.read c f e) some g = absurd (some (ap (λ (x : Reading). x .refusal) e))
 
 -- The question was read.
 pub record Heard (text : List ℕ) (q : Reading) : Type 0 where
-  pub clear : Clear (readTable text)
+  pub clear : Clear (questionTable text)
   pub asks : Asks text (q .question)
 
 -- What reading says where it refuses nothing.
 pub heard : (text : List ℕ) (q : Reading) → ReadAs text q → q .refusal ≡ 0 → Heard text q
-heard text q (reading.refused {n} g e) zero = absurd (omega (arith, above (readTable text) 0 (read-rising text) n (given-applies (readTable text) n g), ap (λ (x : Reading). x .refusal) e))
+heard text q (reading.refused {n} g e) zero = absurd (omega (arith, above (questionTable text) 0 (question-rising text) n (given-applies (questionTable text) n g), ap (λ (x : Reading). x .refusal) e))
 heard text q (reading.read c f e) zero = record { clear = c; asks = record { writes = f; few = few-steps c f; is = ap (λ (x : Reading). x .question) e } }
 
-module _ (b text : List ℕ) (law : Lawful b) (c : Clear (readTable text)) (k ret : ℕ) (hangs offsets counts : List ℕ) (d : Draws b text k ret hangs offsets counts)
+module _ (b text : List ℕ) (law : Lawful b) (c : Clear (questionTable text)) (k ret : ℕ) (hangs offsets counts : List ℕ) (d : Draws b text k ret hangs offsets counts)
     (place : ℕ) (entry exit : List ℕ) (r : Page) where
   nothing-refused : Clear (callTable b text)
-  nothing-refused = clear-both (checkTable b) (questionTable b text) law (clear-both (readTable text) (lastRow b text) c (never-too-many b text law, tt))
+  nothing-refused = clear-both (checkTable b) (questionTable text) law c
 
   -- The engine's page of whole rows is what the evidence call promises, and of the returned step alone what the answer call promises.
   pub give-evidence : (whole : Bool) → whole ≡ true → Paged (planOf b k ret hangs offsets counts) (PartOf (planOf b k ret hangs offsets counts) 0 k) place (length entry / k) entry exit r → Responds whole b text place entry exit r

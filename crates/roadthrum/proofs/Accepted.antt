@@ -4,7 +4,7 @@ use Prim.Native.Nat.{ℕ, zero, suc, _+_, _-_, _*_, _/_, _≤_, _<_}
 use native.Mathlib.Nat.{suc-mul, div-eq-sub-div}
 use native.Mathlib.Omega.{arith}
 use mathlib.Core.Path.{_≡_, refl, sym, ap, subst, _∙_}
-use mathlib.Core.Logic.{_⊎_, ⊎-elim}
+use mathlib.Core.Logic.{⊎-elim}
 use mathlib.Core.Bool.{true, true≢false}
 use mathlib.Core.List.{List, [], _∷_, _++_}
 use lib.ListN.{length, take, drop, length-append, List·getD-append}
@@ -18,21 +18,21 @@ use Rattle.meaning.specs.Picks.{Asked, Evidence, asked, stepAt}
 use Rattle.meaning.specs.Pages.{Rows, none, row, Paged, evidenceRoom}
 use Rattle.meaning.specs.Refusals.{Clear, Lawful, checkTable, questionTable, callTable}
 use Rattle.meaning.specs.Promises.{Shown, refused, page}
-use Rattle.meaning.proofs.Laws.Table.{above, given-applies, call-rising, clear-first, clear-not-given}
+use Rattle.meaning.proofs.Laws.Table.{above, given-applies, call-rising, clear-first, clear-after, clear-not-given}
 use Rattle.meaning.proofs.Laws.Notation.{one-tree}
 use Rattle.meaning.proofs.Laws.Step.{steps-some}
 use Rattle.meaning.proofs.Laws.Page.{page-onward}
+use Rattle.meaning.proofs.Laws.Few.{few-steps}
 use Rattle.contents.proofs.FindLaws.{list-within}
 use Rattle.question.specs.declared.Reading.{Reading}
-use Rattle.question.specs.Promise.{ReadAs, readTable}
+use Rattle.question.specs.Promise.{ReadAs}
 use Rattle.question.specs.Promise as reading
-use Rattle.question.proofs.ReadTable.{few-steps}
 use Rattle.plan.specs.Drawn.{Asks, Drawn}
 
 -- What an accepted call has found.
 pub record Accepted (b text : List ℕ) (place : ℕ) (entry rows : List ℕ) (r : Page) : Type 0 where
   pub lawful : Lawful b
-  pub read : Clear (readTable text)
+  pub read : Clear (questionTable text)
   pub follows : Follows text
   pub few : steps (follows .tree) ≤ mostSteps
   pub paged : Paged (asked b (follows .tree)) (Evidence (asked b (follows .tree))) place (evidenceRoom (asked b (follows .tree)) (length entry)) entry rows r
@@ -40,18 +40,18 @@ pub record Accepted (b text : List ℕ) (place : ℕ) (entry rows : List ℕ) (r
 pub accepted : (b text : List ℕ) (place : ℕ) (entry rows : List ℕ) (r : Page) → Shown b text place entry rows r → r .refusal ≡ 0 → Accepted b text place entry rows r
 accepted b text place entry rows r (refused {n} g x) e = absurd (omega (arith, above (callTable b text) 0 (call-rising b text) n (given-applies (callTable b text) n g), x .refusal, e))
 accepted b text place entry rows r (page c f p) e =
-    let (no₇, (no₈, (no₉, rest))) = c .1 .1 .1 .1 .1 .1 in
+    let read = clear-after (checkTable b) (questionTable text) c in
     record {
-      lawful = clear-first (checkTable b) (questionTable b text) c;
-      read = (no₇, (no₈, (no₉, tt)));
+      lawful = clear-first (checkTable b) (questionTable text) c;
+      read = read;
       follows = f;
-      few = few-steps (no₇, (no₈, (no₉, tt))) f;
+      few = few-steps read f;
       paged = p;
     }
 
 -- Reading the question again gives it.
-pub asks : (text : List ℕ) (q : Reading) → ReadAs text q → Clear (readTable text) → (f : Follows text) → steps (f .tree) ≤ mostSteps → Asks text (q .question)
-asks text q (reading.refused {n} g e) c f few = absurd (clear-not-given (readTable text) n c g)
+pub asks : (text : List ℕ) (q : Reading) → ReadAs text q → Clear (questionTable text) → (f : Follows text) → steps (f .tree) ≤ mostSteps → Asks text (q .question)
+asks text q (reading.refused {n} g e) c f few = absurd (clear-not-given (questionTable text) n c g)
 asks text q (reading.read c f e) d g few =
     record { writes = f; few = subst (λ (t : Path). steps t ≤ mostSteps) (one-tree g f) few; is = ap (λ (x : Reading). x .question) e }
 

@@ -90,11 +90,11 @@ due-decides b text (large t) n =
 -- So the table gives the number.
 module _ (b text : List ℕ) (n : ℕ) where
   -- On a lawful index the question's part of the table does.
-  behind : checkOf b ≡ 0 → Given (questionTable b text) n → Given (callTable b text) n
-  behind e g = given-after (checkTable b) (questionTable b text) n (checked-lawful b (checkOf b) e (check-agrees b)) g
+  behind : checkOf b ≡ 0 → Given (questionTable text) n → Given (callTable b text) n
+  behind e g = given-after (checkTable b) (questionTable text) n (checked-lawful b (checkOf b) e (check-agrees b)) g
 
   given-due : (why : Why) → Due b text why n → Given (callTable b text) n
-  given-due unlawful (e, l) = given-first (checkTable b) (questionTable b text) n (verdict-given (checkTable b) n l (subst (Checked b) e (check-agrees b)))
+  given-due unlawful (e, l) = given-first (checkTable b) (questionTable text) n (verdict-given (checkTable b) n l (subst (Checked b) e (check-agrees b)))
   given-due long (e, (l, is)) = behind e (inl (l, is))
   given-due blank (e, (none, is)) =
       let short : TooLong text → ⊥ = λ l. omega (arith, subst (λ (w : List ℕ). length w ≤ 0) (sym none) (omega arith)) in

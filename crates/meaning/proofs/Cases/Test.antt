@@ -28,7 +28,6 @@ use Rattle.meaning.proofs.Laws.Day.{lawful-fit}
 use Rattle.meaning.proofs.Decide.Day.{checkOf, check-agrees}
 use Rattle.meaning.proofs.Decide.Picks.{choose, edgeB, hungB, pickB, somePick, returnedB, undercutB, evidenceB, evidence-decides}
 use Rattle.meaning.proofs.Laws.Record.{filtered, recordsOf, records-of}
-use Rattle.meaning.proofs.Laws.Few.{never-too-many}
 use Rattle.meaning.proofs.Cases.{Room, ample, just, Asking, Case, ask, check, empty, IsRoom, joined, resultOf, over, AskRight, Right, All}
 
 -- How many of n records are written.
@@ -135,7 +134,7 @@ module _ (c : Asking) (e : checkOf (c .index) ≡ 0) (w : Written c) (l : Listed
   follows = record { tree = c .tree; named = w .1 .0; written = w .0 }
 
   clear : Clear (callTable (c .index) (c .text))
-  clear = clear-both (checkTable (c .index)) (questionTable (c .index) (c .text)) law (long, (λ n. n follows, (large, (never-too-many (c .index) (c .text) law, tt))))
+  clear = clear-both (checkTable (c .index)) (questionTable (c .text)) law (long, (λ n. n follows, (large, tt)))
     where
       long : TooLong (c .text) → ⊥
       long h = omega (arith, w .1 .1 .0)

@@ -1,22 +1,27 @@
--- How many records and rows a call can have.
+-- How many steps, records and rows a call can have, and why no refusal is about the number of records.
 use Prim.Native.Nat.{ℕ, _≤_, _<_}
 use native.Mathlib.Omega.{arith}
-use mathlib.Core.Logic.{inr, ⊎-elim}
+use mathlib.Core.Logic.{inl, inr, ⊎-elim}
 use mathlib.Core.List.{List}
 use lib.ListN.{length}
 use Rattle.meaning.specs.declared.Page.{Page}
-use Rattle.meaning.specs.Limits.{mostLabels}
+use Rattle.meaning.specs.Limits.{mostLabels, mostSteps}
 use Rattle.meaning.specs.Day.{total}
-use Rattle.meaning.specs.Notation.{Path, Follows}
+use Rattle.meaning.specs.Notation.{Path, Follows, steps}
 use Rattle.meaning.specs.Picks.{Asked, Returned, asked, stepAt}
-use Rattle.meaning.specs.Pages.{In, Records, TooMany}
-use Rattle.meaning.specs.Refusals.{Lawful, checkTable, questionTable, callTable}
+use Rattle.meaning.specs.Pages.{In, Records}
+use Rattle.meaning.specs.Refusals.{end, row, followed, Clear, Lawful, checkTable, questionTable, callTable}
 use Rattle.meaning.specs.Promises.{Outcome, refused, page}
 use Rattle.meaning.specs.Fit.{Fit}
 use Rattle.meaning.proofs.Decide.{or-not, le-decides}
 use Rattle.meaning.proofs.Laws.Day.{lawful-fit, list-small}
 use Rattle.meaning.proofs.Laws.Record.{ascending-few}
 use Rattle.meaning.proofs.Laws.Table.{clear-first}
+use Rattle.meaning.proofs.Laws.Promise.{kept-without, kept-with}
+
+-- A question that is not refused has at most 32 steps.
+pub few-steps : {text : List ℕ} → Clear (questionTable text) → (f : Follows text) → steps (f .tree) ≤ mostSteps
+few-steps c f = ⊎-elim (λ l. l) (λ n. absurd (c .1 .1 .0 (f, inl (omega arith)))) (or-not (le-decides (steps (f .tree)) mostSteps))
 
 -- A lawful day has at most 1,048,576 labels.
 pub lawful-small : (b : List ℕ) → Lawful b → total b ≤ mostLabels
@@ -31,7 +36,7 @@ returned-below : (a : Asked) → Fit a → (i : ℕ) → Returned a i → i < a 
 returned-below a fit i (p, pick, e) = omega (arith, e, pick .within (a .returned) (fit .returned-lt))
 
 -- For a lawful index and a question that follows the notation, no list of returned records, from whatever place, is longer than 1,048,576:
--- they are different labels of one list.
+-- they are different labels of one list. So there is nothing to refuse, and the table has no row for it.
 pub few-records : {b text : List ℕ} → Lawful b → (f : Follows text) (place : ℕ) (all : List ℕ) → Records (asked b (f .tree)) place all → length all ≤ mostLabels
 few-records {b} {text} law f place all rec =
     let a : Asked = asked b (f .tree) in
@@ -43,8 +48,20 @@ few-records {b} {text} law f place all rec =
 pub few-rows : {Row : Asked → ℕ → List ℕ → Type 0} {room : Asked → ℕ → ℕ} {b text entry exit : List ℕ} {place : ℕ} {r : Page}
     → Outcome (callTable b text) Row room b text place entry exit r → r .rows ≤ mostLabels
 few-rows (refused g x) = omega (arith, x .rows)
-few-rows {b = b} {text = text} (page c f p) = omega (arith, p .rows, few-records (clear-first (checkTable b) (questionTable b text) c) f _ (p .all) (p .records))
+few-rows {b = b} {text = text} (page c f p) = omega (arith, p .rows, few-records (clear-first (checkTable b) (questionTable text) c) f _ (p .all) (p .records))
 
--- On a lawful day reason 10 never applies.
-pub never-too-many : (b text : List ℕ) → Lawful b → TooMany b text → ⊥
-never-too-many b text law (f, all, rec, many) = omega (arith, many, few-records law f 0 all rec)
+-- More than 1,048,576 records are returned.
+abbrev Many : List ℕ → List ℕ → Type 0
+Many b text = (f : Follows text) × (all : List ℕ) × Records (asked b (f .tree)) 0 all × (mostLabels < length all)
+
+never-many : (b text : List ℕ) → Clear (callTable b text) → Many b text → ⊥
+never-many b text c (f, all, rec, many) = omega (arith, many, few-records (clear-first (checkTable b) (questionTable text) c) f 0 all rec)
+
+-- A row for that, behind all others and by whatever number, would change nothing: a call keeps the promise with it exactly if it keeps it
+-- without.
+module _ (b text : List ℕ) (n : ℕ) {Row : Asked → ℕ → List ℕ → Type 0} {room : Asked → ℕ → ℕ} {entry exit : List ℕ} {place : ℕ} {r : Page} where
+  pub many-left-out : Outcome (followed (callTable b text) (row n (Many b text) end)) Row room b text place entry exit r → Outcome (callTable b text) Row room b text place entry exit r
+  many-left-out = kept-without (callTable b text) end n (Many b text) (never-many b text)
+
+  pub many-put-back : Outcome (callTable b text) Row room b text place entry exit r → Outcome (followed (callTable b text) (row n (Many b text) end)) Row room b text place entry exit r
+  many-put-back = kept-with (callTable b text) end n (Many b text) (never-many b text)

@@ -6,7 +6,7 @@ use mathlib.Core.Logic.{_⊎_, inl, inr}
 use mathlib.Core.Bool.{Bool, true, false}
 use mathlib.Core.List.{List}
 use Rattle.meaning.specs.Answers.{Decides, holds, fails}
-use Rattle.meaning.specs.Refusals.{Table, end, row, Given, Clear, Verdict, clear, given, Lawful, followed, checkTable, callTable}
+use Rattle.meaning.specs.Refusals.{Table, end, row, Given, Clear, Verdict, clear, given, Lawful, followed, checkTable, questionTable, callTable}
 use Rattle.meaning.specs.Promises.{Checked}
 
 -- A table gives at most one number.
@@ -53,12 +53,15 @@ given-least (row j reason rest) k r n m (inl g) (inr a) = omega (arith, g .1, ab
 given-least (row j reason rest) k r n m (inr g) (inl a) = absurd (g .0 (a .0))
 given-least (row j reason rest) k r n m (inr g) (inr a) = given-least rest j (r .1) n m (g .1) a
 
--- The numbers of document 01's table ascend from 1 to 10, in the order in which the checks run.
+-- The numbers of the table ascend from 1 to 9, in the order in which the checks run.
 pub call-rising : (b text : List ℕ) → Rising 0 (callTable b text)
-call-rising b text = (omega arith, (omega arith, (omega arith, (omega arith, (omega arith, (omega arith, (omega arith, (omega arith, (omega arith, (omega arith, tt))))))))))
+call-rising b text = (omega arith, (omega arith, (omega arith, (omega arith, (omega arith, (omega arith, (omega arith, (omega arith, (omega arith, tt)))))))))
 
 pub check-rising : (b : List ℕ) → Rising 0 (checkTable b)
 check-rising b = (omega arith, (omega arith, (omega arith, (omega arith, (omega arith, (omega arith, tt))))))
+
+pub question-rising : (text : List ℕ) → Rising 0 (questionTable text)
+question-rising text = (omega arith, (omega arith, (omega arith, tt)))
 
 -- What a table gives, it gives also where another follows: a broken index gives its own number, whatever the question.
 pub given-first : (t u : Table) (n : ℕ) → Given t n → Given (followed t u) n

@@ -10,7 +10,7 @@ use Rattle.meaning.specs.declared.Page.{Page}
 use Rattle.meaning.specs.Pages.{Paged}
 use Rattle.meaning.specs.Refusals.{Given, Clear, clear, given, Lawful, checkTable, questionTable, callTable}
 use Rattle.meaning.specs.Promises.{Checked, refused, page}
-use Rattle.meaning.proofs.Laws.Table.{above, given-applies, question-rising, given-first, given-after, clear-both}
+use Rattle.meaning.proofs.Laws.Table.{given-above, question-rising, given-first, given-after, clear-both}
 use Rattle.meaning.proofs.Laws.Few.{few-steps}
 use Rattle.question.specs.declared.Reading.{Reading}
 use Rattle.question.specs.Promise.{ReadAs}
@@ -50,7 +50,7 @@ pub record Heard (text : List ℕ) (q : Reading) : Type 0 where
 
 -- What reading says where it refuses nothing.
 pub heard : (text : List ℕ) (q : Reading) → ReadAs text q → q .refusal ≡ 0 → Heard text q
-heard text q (reading.refused {n} g e) zero = absurd (omega (arith, above (questionTable text) 0 (question-rising text) n (given-applies (questionTable text) n g), ap (λ (x : Reading). x .refusal) e))
+heard text q (reading.refused {n} g e) zero = absurd (omega (arith, given-above (questionTable text) 0 (question-rising text) n g, ap (λ (x : Reading). x .refusal) e))
 heard text q (reading.read c f e) zero = record { clear = c; asks = record { writes = f; few = few-steps c f; is = ap (λ (x : Reading). x .question) e } }
 
 module _ (b text : List ℕ) (law : Lawful b) (c : Clear (questionTable text)) (k ret : ℕ) (hangs offsets counts : List ℕ) (d : Draws b text k ret hangs offsets counts)

@@ -18,7 +18,7 @@ use Rattle.meaning.specs.Picks.{Asked, Evidence, asked, stepAt}
 use Rattle.meaning.specs.Pages.{Rows, none, row, Paged, evidenceRoom}
 use Rattle.meaning.specs.Refusals.{Clear, Lawful, checkTable, questionTable, callTable}
 use Rattle.meaning.specs.Promises.{Shown, refused, page}
-use Rattle.meaning.proofs.Laws.Table.{above, given-applies, call-rising, clear-first, clear-after, clear-not-given}
+use Rattle.meaning.proofs.Laws.Table.{given-above, call-rising, clear-first, clear-after, clear-not-given}
 use Rattle.meaning.proofs.Laws.Notation.{one-tree}
 use Rattle.meaning.proofs.Laws.Step.{steps-some}
 use Rattle.meaning.proofs.Laws.Page.{page-onward}
@@ -38,7 +38,7 @@ pub record Accepted (b text : List ℕ) (place : ℕ) (entry rows : List ℕ) (r
   pub paged : Paged (asked b (follows .tree)) (Evidence (asked b (follows .tree))) place (evidenceRoom (asked b (follows .tree)) (length entry)) entry rows r
 
 pub accepted : (b text : List ℕ) (place : ℕ) (entry rows : List ℕ) (r : Page) → Shown b text place entry rows r → r .refusal ≡ 0 → Accepted b text place entry rows r
-accepted b text place entry rows r (refused {n} g x) e = absurd (omega (arith, above (callTable b text) 0 (call-rising b text) n (given-applies (callTable b text) n g), x .refusal, e))
+accepted b text place entry rows r (refused {n} g x) e = absurd (omega (arith, given-above (callTable b text) 0 (call-rising b text) n g, x .refusal, e))
 accepted b text place entry rows r (page c f p) e =
     let read = clear-after (checkTable b) (questionTable text) c in
     record {

@@ -39,7 +39,7 @@ shown-fixed = outcome-fixed evidence-one
 module _ (t u : Table) (n : ℕ) (reason : Type 0) (never : Clear t → reason → ⊥) {Row : Asked → ℕ → List ℕ → Type 0} {room : Asked → ℕ → ℕ} {b text entry exit : List ℕ} {place : ℕ} {r : Page} where
   pub kept-without : Outcome (followed t (row n reason u)) Row room b text place entry exit r → Outcome (followed t u) Row room b text place entry exit r
   kept-without (refused {n = m} g x) = refused (given-without t u n reason never m g) x
-  kept-without (page c f p) = page (clear-without t u n reason c) f p
+  kept-without (page c f p) = page (clear-without t u n reason never c) f p
 
   pub kept-with : Outcome (followed t u) Row room b text place entry exit r → Outcome (followed t (row n reason u)) Row room b text place entry exit r
   kept-with (refused {n = m} g x) = refused (given-with t u n reason never m g) x

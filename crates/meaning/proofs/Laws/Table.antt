@@ -2,7 +2,7 @@
 use Prim.Native.Nat.{ℕ, _≤_, _<_}
 use native.Mathlib.Omega.{arith}
 use mathlib.Core.Path.{_≡_, refl, sym, _∙_}
-use mathlib.Core.Logic.{_⊎_, inl, inr}
+use mathlib.Core.Logic.{_⊎_, inl, inr, ⊎-elim}
 use mathlib.Core.Bool.{Bool, true, false}
 use mathlib.Core.List.{List}
 use Rattle.meaning.specs.Answers.{Decides, holds, fails}
@@ -45,6 +45,10 @@ above end k r n a = absurd a
 above (row m reason rest) k r n (inl a) = omega (arith, r .0, a .1)
 above (row m reason rest) k r n (inr a) = omega (arith, r .0, above rest m (r .1) n a)
 
+-- So has what is given.
+pub given-above : (t : Table) (k : ℕ) → Rising k t → (n : ℕ) → Given t n → k < n
+given-above t k r n g = above t k r n (given-applies t n g)
+
 -- The number that is given is the least whose reason applies.
 pub given-least : (t : Table) (k : ℕ) → Rising k t → (n m : ℕ) → Given t n → Applies t m → n ≤ m
 given-least end k r n m g a = absurd g
@@ -74,6 +78,12 @@ pub given-after : (t u : Table) (n : ℕ) → Clear t → Given u n → Given (f
 given-after end u n c g = g
 given-after (row m reason rest) u n c g = inr (c .0, given-after rest u n (c .1) g)
 
+-- So a number that two tables give is given by the first, or by the second where the first has nothing.
+pub given-parts : (t u : Table) (n : ℕ) → Given (followed t u) n → Given t n ⊎ (Clear t × Given u n)
+given-parts end u n g = inr (tt, g)
+given-parts (row m reason rest) u n (inl g) = inl (inl g)
+given-parts (row m reason rest) u n (inr g) = ⊎-elim (λ h. inl (inr (g .0, h))) (λ h. inr ((g .0, h .0), h .1)) (given-parts rest u n (g .1))
+
 -- No reason of two tables applies exactly if no reason of either does.
 pub clear-both : (t u : Table) → Clear t → Clear u → Clear (followed t u)
 clear-both end u c d = d
@@ -89,24 +99,18 @@ clear-after (row m reason rest) u c = clear-after rest u (c .1)
 
 -- A row whose reason never applies where no reason before it does changes nothing: the table gives the same number with it as without it,
 -- and with it no reason applies exactly if without it none does.
-pub given-without : (t u : Table) (n : ℕ) (reason : Type 0) → (Clear t → reason → ⊥) → (m : ℕ) → Given (followed t (row n reason u)) m → Given (followed t u) m
-given-without end u n reason never m (inl g) = absurd (never tt (g .0))
-given-without end u n reason never m (inr g) = g .1
-given-without (row k before rest) u n reason never m (inl g) = inl g
-given-without (row k before rest) u n reason never m (inr g) = inr (g .0, given-without rest u n reason (λ c. never (g .0, c)) m (g .1))
+module _ (t u : Table) (n : ℕ) (reason : Type 0) (never : Clear t → reason → ⊥) where
+  pub given-without : (m : ℕ) → Given (followed t (row n reason u)) m → Given (followed t u) m
+  given-without m g = ⊎-elim (given-first t u m) (λ h. given-after t u m (h .0) (⊎-elim (λ x. absurd (never (h .0) (x .0))) (λ x. x .1) (h .1))) (given-parts t (row n reason u) m g)
 
-pub given-with : (t u : Table) (n : ℕ) (reason : Type 0) → (Clear t → reason → ⊥) → (m : ℕ) → Given (followed t u) m → Given (followed t (row n reason u)) m
-given-with end u n reason never m g = inr (never tt, g)
-given-with (row k before rest) u n reason never m (inl g) = inl g
-given-with (row k before rest) u n reason never m (inr g) = inr (g .0, given-with rest u n reason (λ c. never (g .0, c)) m (g .1))
+  pub given-with : (m : ℕ) → Given (followed t u) m → Given (followed t (row n reason u)) m
+  given-with m g = ⊎-elim (given-first t (row n reason u) m) (λ h. given-after t (row n reason u) m (h .0) (inr (never (h .0), h .1))) (given-parts t u m g)
 
-pub clear-without : (t u : Table) (n : ℕ) (reason : Type 0) → Clear (followed t (row n reason u)) → Clear (followed t u)
-clear-without end u n reason c = c .1
-clear-without (row k before rest) u n reason c = (c .0, clear-without rest u n reason (c .1))
+  pub clear-without : Clear (followed t (row n reason u)) → Clear (followed t u)
+  clear-without c = clear-both t u (clear-first t (row n reason u) c) (clear-after t (row n reason u) c .1)
 
-pub clear-with : (t u : Table) (n : ℕ) (reason : Type 0) → (Clear t → reason → ⊥) → Clear (followed t u) → Clear (followed t (row n reason u))
-clear-with end u n reason never c = (never tt, c)
-clear-with (row k before rest) u n reason never c = (c .0, clear-with rest u n reason (λ d. never (c .0, d)) (c .1))
+  pub clear-with : Clear (followed t u) → Clear (followed t (row n reason u))
+  clear-with c = clear-both t (row n reason u) (clear-first t u c) (never (clear-first t u c), clear-after t u c)
 
 -- A table gives one number: two verdicts on it are equal.
 pub verdict-one : (t : Table) (m n : ℕ) → Verdict t m → Verdict t n → m ≡ n
@@ -127,7 +131,7 @@ verdict-given t n l (given g) = g
 -- Where a table whose numbers are above 0 gives 0, no reason of it applies.
 pub zero-clear : (t : Table) → Rising 0 t → (n : ℕ) → n ≡ 0 → Verdict t n → Clear t
 zero-clear t rising n e (clear c) = c
-zero-clear t rising n e (given g) = absurd (omega (arith, above t 0 rising n (given-applies t n g)))
+zero-clear t rising n e (given g) = absurd (omega (arith, given-above t 0 rising n g))
 
 -- An index to which the check call gives 0 is lawful.
 pub checked-lawful : (b : List ℕ) (n : ℕ) → n ≡ 0 → Checked b n → Lawful b

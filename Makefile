@@ -7,8 +7,11 @@ demo: program
 test:
 	@bash tests/gate
 
+# BEFORE=PATH names the static library of an earlier state, which then takes its turn beside the others: what a change made of the speed.
 bench: library
-	@cargo run --quiet --release --offline --locked --manifest-path rust/Cargo.toml -p bench
+	@if [ -n "$(BEFORE)" ]; then cc -shared -o target/before.so -Wl,-Bsymbolic,--whole-archive "$(BEFORE)" -Wl,--no-whole-archive; fi
+	@ROADTHRUM_BEFORE=$(if $(BEFORE),$(CURDIR)/target/before.so) cargo run --quiet --release --offline --locked \
+		--manifest-path rust/Cargo.toml -p bench
 
 # The static library for C and Rust, and the program, with target/roadthrum to run it by. Each is proved first, unless it was and nothing has
 # changed. Both are made for x86-64; on another processor `machine/` has what makes the library for it and runs the program.

@@ -29,7 +29,7 @@ fn look(index: &[u8], at: usize, n: usize, p: usize, over: usize, q: usize) -> S
     let here = label::start_at(index, at, p);
     let above = label::start_at(index, over, q);
     if here <= above {
-        return Sight::Early(label::started(index, at, n, above));
+        return Sight::Early(label::started_from(index, at, n, p + 1, above));
     }
     let last = label::end_at(index, over, q);
     if last < here {

@@ -1,3 +1,3 @@
--- The laws of parts of the bytes and of `Started`, which callers use, and what keeps the loop of `started`.
+-- The laws of parts of the bytes and of `Started`, which callers use, and on what the searches rest.
 pub mod PartLaws
-pub mod Halving
+pub mod Searching

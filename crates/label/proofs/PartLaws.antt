@@ -1,4 +1,4 @@
--- A number or a label read in a part of the bytes is the one read in the whole, and the promise of `started` fixes its result.
+-- A number or a label read in a part of the bytes is the one read in the whole, and the promise of a search fixes its result.
 use Prim.Native.Nat.{ℕ, _+_, _*_, _≤_, _<_}
 use native.Mathlib.Nat.{le-antisymm, lt-of-not-le}
 use native.Mathlib.Decide.{decLe}
@@ -42,7 +42,7 @@ no-more : {b : List ℕ} {at n v r q : ℕ} → Started b at n v r → Started b
 no-more {r = r} {q = q} x y = go (decLe q r)
   where
     less : r < q → ⊥
-    less l = omega (arith, y .first r l, x .rest r (omega arith) (omega arith))
+    less l = omega (arith, y .first r (omega arith), x .rest r (omega arith) (omega arith))
 
     go : Dec (q ≤ r) → q ≤ r
     go (yes l) = l

@@ -3,8 +3,9 @@ ghost use mathlib.Core.Path.{_≡_};
 ghost use Prim.Native.Nat.{_+_, _*_, _<_, _≤_};
 ghost use lib.ListN.{length};
 ghost use Rattle.meaning.specs.Bytes.{u16At, u32At};
+ghost use Rattle.meaning.specs.Answers.{Decides};
 ghost use Rattle.meaning.specs.Day.{labelAt};
-ghost use Rattle.label.specs.Started.{Ascends, Started};
+ghost use Rattle.label.specs.Started.{Ascends, Between, Started};
 use meaning::Label;
 
 // A byte as a 32-bit number: a cast that asks nothing of the caller.
@@ -63,28 +64,52 @@ pub fn label_at(s: &[u8], at: usize, i: usize) -> Label
     }
 }
 
-// How many of the n labels of the body that begins at `at` start at or before `v`. They ascend by start, so a look at the one in
-// the middle of those that are left settles one half of them. How many are left does not depend on what was found there, so that
-// a round waits for one choice only. `first` is the start of label `base`. It spares a last look, and with it LLVM makes the choice
-// by conditional moves: for `base` alone it makes a branch, which the processor often guesses wrong.
-pub fn started(s: &[u8], at: usize, n: usize, v: u32) -> usize
-    requires { ⌜ (at + 8 * n ≤ length (now s)) × Ascends (now s) at n ⌝ }
+// Whether label i of the body that begins at `at` starts at or before `v`. A search looks at labels by this alone: it reads starts, and never
+// an end.
+fn starts_by(s: &[u8], at: usize, i: usize, v: u32) -> bool
+    requires { ⌜ at + 8 * i + 8 ≤ length (now s) ⌝ }
+    ensures { λ r. ⌜ Decides (labelAt (now (s .entry)) at i .start ≤ v) r ⌝ }
+{
+    if v < start_at(s, at, i) {
+        return false;
+    }
+    true
+}
+
+// How many of the n labels of the body that begins at `at` start at or before `v`, where that is a number from `low` to `high`. They ascend
+// by start, so a look at the one in the middle of those that are left settles one half of them. How many are left does not depend on
+// what was found there, so that a round waits for one choice only.
+fn halved(s: &[u8], at: usize, n: usize, v: u32, low: usize, high: usize) -> usize
+    requires { ⌜ (at + 8 * n ≤ length (now s)) × Ascends (now s) at n × Between (now s) at n v low high ⌝ }
     ensures { λ r. ⌜ Started (now (s .entry)) at n v r ⌝ }
 {
-    if n == 0 {
-        return 0;
-    }
-    let mut base = 0;
-    let mut first = start_at(s, at, 0);
-    let mut size = n;
-    while 1 < size {
-        let half = size / 2;
-        let x = start_at(s, at, base + half);
-        if x <= v {
+    let mut base = low;
+    let mut left = high - low;
+    while 0 < left {
+        let half = (left + 1) / 2;
+        if starts_by(s, at, base + (half - 1), v) {
             base += half;
-            first = x;
         }
-        size -= half;
+        left -= half;
     }
-    if first <= v { base + 1 } else { base }
+    base
+}
+
+// How many of the n labels of the body that begins at `at` start at or before `v`, where the first `from` are known to. The one asked for
+// is mostly near: so the next label is looked at first, and then each time one as far again from there, until one starts after `v`.
+// What lies between the last two is halved.
+pub fn started_from(s: &[u8], at: usize, n: usize, from: usize, v: u32) -> usize
+    requires { ⌜ (at + 8 * n ≤ length (now s)) × Ascends (now s) at n × Between (now s) at n v from n ⌝ }
+    ensures { λ r. ⌜ Started (now (s .entry)) at n v r ⌝ }
+{
+    let mut low = from;
+    let mut high = from;
+    while high < n && starts_by(s, at, high, v) {
+        low = high + 1;
+        high = low + (high - from);
+    }
+    if n < high {
+        high = n;
+    }
+    halved(s, at, n, v, low, high)
 }

@@ -23,7 +23,8 @@ fn how_the_twin_is_measured() {
     println!(
         "\nEvery time is the least of at least {} runs that together took at least {:.1} s, or of fewer where they took over {} s; the \
          library's and the twin's runs take turns. The answer and the evidence call are timed whole, with the check of the index that \
-         each of them makes. The buffers have ample room. The run stops unless library and twin agree in every number of them.",
+         each of them makes; what they take less the check stands in a table of its own. The buffers have ample room. The run stops \
+         unless library and twin agree in every number of them.",
         timing::LEAST_RUNS,
         timing::ENOUGH.as_secs_f64(),
         timing::TOO_MUCH.as_secs(),

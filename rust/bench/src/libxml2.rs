@@ -1,15 +1,8 @@
-//! libxml2 where it is installed, found when the program runs. All that is unsafe stands here.
+//! libxml2 where it is installed, found when the program runs.
 
+use crate::loaded::Loaded;
 use std::ffi::{c_char, c_int, c_void, CStr, CString};
 use std::ptr::{null, NonNull};
-
-extern "C" {
-    fn dlopen(name: *const c_char, flags: c_int) -> *mut c_void;
-    fn dlsym(library: *mut c_void, name: *const c_char) -> *mut c_void;
-}
-
-/// Look all names up at once.
-const RTLD_NOW: c_int = 2;
 
 /// Take away the limits that guard against hostile texts.
 const XML_PARSE_HUGE: c_int = 1 << 19;
@@ -56,12 +49,9 @@ pub struct Prepared<'a> {
 impl Library {
     /// The library, or nothing if it is not installed.
     pub fn load() -> Option<Library> {
-        // SAFETY: the name ends with a zero byte; libxml2 does nothing on loading that disturbs this program.
-        let library = NonNull::new(unsafe { dlopen(c"libxml2.so.2".as_ptr(), RTLD_NOW) })?;
-        let symbol = |name: &CStr| {
-            // SAFETY: the library was loaded and is never closed, and the name ends with a zero byte.
-            NonNull::new(unsafe { dlsym(library.as_ptr(), name.as_ptr()) })
-        };
+        // SAFETY: libxml2 does nothing on being loaded that disturbs this program.
+        let library = unsafe { Loaded::open(c"libxml2.so.2") }?;
+        let symbol = |name: &CStr| library.symbol(name);
         // SAFETY: these are libxml2's functions, and the types are those that its headers declare for them, with pointers to things that
         // are only handed back to libxml2 as pointers to anything. `xmlParserVersion` is a pointer to characters that end with a zero byte.
         unsafe {

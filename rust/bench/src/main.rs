@@ -5,14 +5,21 @@
 #![deny(unsafe_code, unsafe_op_in_unsafe_fn)]
 #![deny(clippy::undocumented_unsafe_blocks)]
 
+#[allow(unsafe_code)]
+mod before;
 mod compared;
+mod contenders;
+mod far;
 mod growth;
 mod header;
 #[allow(unsafe_code)]
 mod libxml2;
 mod lift;
+#[allow(unsafe_code)]
+mod loaded;
 mod measure;
 mod nested;
+mod report;
 mod rival;
 mod source;
 mod table;
@@ -37,8 +44,10 @@ fn main() -> ExitCode {
 }
 
 fn measure_all() -> Result<(), Failure> {
+    let contenders = measure::Contenders::named()?;
     header::print();
-    lift::print()?;
-    nested::print()?;
-    growth::print()
+    lift::print(&contenders)?;
+    nested::print(&contenders)?;
+    far::print(&contenders)?;
+    growth::print(&contenders)
 }

@@ -1,6 +1,8 @@
-//! The library and the twin on the same index: that they agree, and how long each takes.
+//! All contenders on the same index: that they agree, and how long each takes.
 
-use crate::timing::{side_by_side, Pair};
+use crate::before::Before;
+use crate::contenders::{Call, Contender, Library, Twin};
+use crate::timing::{in_turn, Times};
 use crate::Failure;
 use twin::Page;
 
@@ -8,56 +10,64 @@ use twin::Page;
 const BLANK: u32 = 0xdead_beef;
 
 /// A question's measurement: the number of records returned, and the times of the two calls.
+#[derive(Clone, Copy)]
 pub struct Asked {
     pub records: usize,
-    pub answer: Pair,
-    pub evidence: Pair,
+    pub answer: Times,
+    pub evidence: Times,
 }
 
-/// The times of the check. The index has to be lawful.
-pub fn check(index: &[u8]) -> Result<Pair, Failure> {
-    if roadthrum::check(index).is_err() || twin::check(index) != 0 {
-        return Err("The library or the twin refuses a lawful day.".into());
+/// The library, its twin and, where one is named, the library as it was before.
+pub struct Contenders(Vec<Box<dyn Contender>>);
+
+impl Contenders {
+    pub fn named() -> Result<Contenders, Failure> {
+        let mut contenders: Vec<Box<dyn Contender>> = vec![Box::new(Library), Box::new(Twin)];
+        if let Some(before) = Before::named()? {
+            contenders.push(Box::new(before));
+        }
+        Ok(Contenders(contenders))
     }
-    Ok(side_by_side(|| roadthrum::check(index), || twin::check(index)))
-}
 
-/// The times of the answer call and the evidence call.
-pub fn ask(index: &[u8], question: &str) -> Result<Asked, Failure> {
-    // No list has more labels than the index has parts of 8 bytes.
-    let (records, answer) = call(index, question, index.len() / 8, roadthrum::answer, twin::answer)?;
-    let (_, evidence) = call(index, question, (records + 1) * steps(question), roadthrum::evidence, twin::evidence)?;
-    Ok(Asked { records, answer, evidence })
+    /// Whether an earlier library is among them.
+    pub fn with_before(&self) -> bool {
+        self.0.len() > 2
+    }
+
+    /// The times of the check. The index has to be lawful.
+    pub fn check(&self, index: &[u8]) -> Result<Times, Failure> {
+        if self.0.iter().any(|contender| contender.check(index) != 0) {
+            return Err("A lawful day is refused.".into());
+        }
+        Ok(in_turn(self.0.iter().map(|contender| move || contender.check(index)).collect()))
+    }
+
+    /// The times of the answer call and the evidence call.
+    pub fn ask(&self, index: &[u8], question: &str) -> Result<Asked, Failure> {
+        // No list has more labels than the index has parts of 8 bytes.
+        let (records, answer) = self.call(Call::Answer, index, question, index.len() / 8)?;
+        let (_, evidence) = self.call(Call::Evidence, index, question, (records + 1) * steps(question))?;
+        Ok(Asked { records, answer, evidence })
+    }
+
+    /// The rows that a call gives and its times, in buffers of the given length. The first call of each fills the buffers, which are compared.
+    fn call(&self, call: Call, index: &[u8], question: &str, length: usize) -> Result<(usize, Times), Failure> {
+        let text = question.as_bytes();
+        let mut buffers = vec![vec![BLANK; length]; self.0.len()];
+        let each = self.0.iter().zip(&mut buffers);
+        let pages: Vec<Page> = each.map(|(contender, out)| contender.rows(call, index, text, out)).collect();
+        if pages.iter().any(|page| *page != pages[0]) || buffers.iter().any(|buffer| *buffer != buffers[0]) {
+            return Err(format!("The contenders disagree about {question}."));
+        }
+        if pages[0].refusal != 0 || pages[0].more {
+            return Err(format!("The question {question} was refused or did not fit its buffer."));
+        }
+        let each = self.0.iter().zip(&mut buffers);
+        Ok((pages[0].rows, in_turn(each.map(|(contender, out)| move || contender.rows(call, index, text, out)).collect())))
+    }
 }
 
 /// The number of steps of a question: each begins with `//`, and nothing else in it does.
 fn steps(question: &str) -> usize {
     question.matches("//").count()
-}
-
-/// One of the library's calls for rows, and the twin's.
-type OfLibrary = fn(&[u8], &[u8], u32, &mut [u32]) -> Result<roadthrum::Page, roadthrum::Refusal>;
-type OfTwin = fn(&[u8], &[u8], u32, &mut [u32]) -> Page;
-
-/// The rows that a call gives and its times, in buffers of the given length. The first call of each fills the buffers, which are compared.
-fn call(index: &[u8], question: &str, length: usize, of_library: OfLibrary, of_twin: OfTwin) -> Result<(usize, Pair), Failure> {
-    let text = question.as_bytes();
-    let (mut library, mut twin) = (vec![BLANK; length], vec![BLANK; length]);
-    let page = page_of(of_library(index, text, 0, &mut library));
-    if page != of_twin(index, text, 0, &mut twin) || library != twin {
-        return Err(format!("The library and the twin disagree about {question}."));
-    }
-    if page.refusal != 0 || page.more {
-        return Err(format!("The question {question} was refused or did not fit its buffer."));
-    }
-    let times = side_by_side(|| of_library(index, text, 0, &mut library), || of_twin(index, text, 0, &mut twin));
-    Ok((page.rows, times))
-}
-
-/// The library's outcome in the twin's form.
-fn page_of(outcome: Result<roadthrum::Page, roadthrum::Refusal>) -> Page {
-    match outcome {
-        Ok(page) => Page { refusal: 0, rows: page.rows, more: page.more, next: page.next },
-        Err(refusal) => Page { refusal: refusal.number(), rows: 0, more: false, next: 0 },
-    }
 }

@@ -1,19 +1,20 @@
 //! Questions of 32 steps on days 64 deep, in which records lie in records of their own tag.
 
 use crate::compared::{self, Question};
+use crate::measure::Contenders;
 use crate::source::Source;
 use crate::{table, Failure};
 
 const SIZES: [usize; 3] = [10_000, 100_000, 1_048_576];
 const DEPTH: usize = 64;
 
-pub fn print() -> Result<(), Failure> {
+pub fn print(contenders: &Contenders) -> Result<(), Failure> {
     for records in SIZES {
         println!("\n## {} records of one tag, {DEPTH} deep, 32 steps\n", table::number(records));
-        compared::print(Source::Nested { records, tags: 1, depth: DEPTH }, &[chain(), brackets()])?;
+        compared::print(contenders, Source::Nested { records, tags: 1, depth: DEPTH }, &[chain(), brackets()])?;
     }
     println!("\n## {} records of two tags, {DEPTH} deep, 32 steps\n", table::number(SIZES[2]));
-    compared::print(Source::Nested { records: SIZES[2], tags: 2, depth: DEPTH }, &[turns()])
+    compared::print(contenders, Source::Nested { records: SIZES[2], tags: 2, depth: DEPTH }, &[turns()])
 }
 
 /// Each step inside the one before.

@@ -1,6 +1,6 @@
 //! What a day is made from, so that a child process can make the same day.
 
-use days::{lift_day, nested_day, Day};
+use days::{apart_day, halves_day, lift_day, nested_day, Day};
 
 const SEED: u64 = 20_260_101;
 
@@ -8,6 +8,8 @@ const SEED: u64 = 20_260_101;
 pub enum Source {
     Lift { records: usize },
     Nested { records: usize, tags: usize, depth: usize },
+    Halves { records: usize },
+    Apart { records: usize, distance: usize },
 }
 
 impl Source {
@@ -15,12 +17,15 @@ impl Source {
         match self {
             Source::Lift { records } => lift_day(SEED, records),
             Source::Nested { records, tags, depth } => nested_day(SEED, records, tags, depth),
+            Source::Halves { records } => halves_day(records),
+            Source::Apart { records, distance } => apart_day(SEED, records, distance),
         }
     }
 
     pub fn records(self) -> usize {
         match self {
-            Source::Lift { records } | Source::Nested { records, .. } => records,
+            Source::Lift { records } | Source::Halves { records } => records,
+            Source::Nested { records, .. } | Source::Apart { records, .. } => records,
         }
     }
 
@@ -29,6 +34,8 @@ impl Source {
         match self {
             Source::Lift { records } => vec!["lift".into(), records.to_string()],
             Source::Nested { records, tags, depth } => vec!["nested".into(), records.to_string(), tags.to_string(), depth.to_string()],
+            Source::Halves { records } => vec!["halves".into(), records.to_string()],
+            Source::Apart { records, distance } => vec!["apart".into(), records.to_string(), distance.to_string()],
         }
     }
 
@@ -37,6 +44,8 @@ impl Source {
         let numbers: Vec<usize> = numbers.iter().map(|word| word.parse().ok()).collect::<Option<_>>()?;
         match (kind.as_str(), numbers.as_slice()) {
             ("lift", [records]) => Some(Source::Lift { records: *records }),
+            ("halves", [records]) => Some(Source::Halves { records: *records }),
+            ("apart", [records, distance]) => Some(Source::Apart { records: *records, distance: *distance }),
             ("nested", [records, tags, depth]) => Some(Source::Nested { records: *records, tags: *tags, depth: *depth }),
             _ => None,
         }

@@ -1,6 +1,5 @@
 //! Markdown tables, printed row by row as the measurements come.
 
-use crate::timing::Pair;
 use std::time::Duration;
 
 /// The head of a table. The first column is text, the others are numbers.
@@ -28,24 +27,18 @@ pub fn time(time: Duration) -> String {
     }
 }
 
-/// How many times as long one thing takes as another; without decimals where they say nothing.
-pub fn ratio(ratio: f64) -> String {
-    if ratio < 100.0 {
-        format!("{ratio:.2}")
-    } else {
-        number(ratio as usize)
+/// A time as nanoseconds for each of so many records.
+pub fn each(time: Duration, records: usize) -> String {
+    format!("{:.2}", time.as_secs_f64() * 1e9 / records as f64)
+}
+
+/// How many times as long one thing takes as another; without decimals where they say nothing, and nothing where the other takes none.
+pub fn ratio(one: Duration, other: Duration) -> String {
+    match one.as_secs_f64() / other.as_secs_f64() {
+        _ if other.is_zero() => "–".into(),
+        ratio if ratio < 100.0 => format!("{ratio:.2}"),
+        ratio => number(ratio as usize),
     }
-}
-
-/// The library's time, the twin's, and how many times as long the library takes.
-pub fn times(pair: Pair) -> [String; 3] {
-    [time(pair.library), time(pair.twin), ratio(pair.ratio())]
-}
-
-/// The same as nanoseconds for each of so many records.
-pub fn times_per_record(pair: Pair, records: usize) -> [String; 3] {
-    let each = |time: Duration| format!("{:.2}", time.as_secs_f64() * 1e9 / records as f64);
-    [each(pair.library), each(pair.twin), ratio(pair.ratio())]
 }
 
 #[cfg(test)]
@@ -56,7 +49,10 @@ mod tests {
     fn numbers_and_times() {
         assert_eq!([0, 999, 1000, 1_048_576].map(number), ["0", "999", "1,000", "1,048,576"]);
         let nanoseconds = [1_500, 2_000_000, 3_250_000_000];
-        assert_eq!([0.954, 12.0, 1174.7].map(ratio), ["0.95", "12.00", "1,174"]);
+        let ratios = [954, 12_000, 1_174_700].map(|n| ratio(Duration::from_nanos(n), Duration::from_micros(1)));
+        assert_eq!(ratios, ["0.95", "12.00", "1,174"]);
+        assert_eq!(ratio(Duration::from_nanos(1), Duration::ZERO), "–");
+        assert_eq!(each(Duration::from_micros(1), 80), "12.50");
         assert_eq!(nanoseconds.map(|n| time(Duration::from_nanos(n))), ["1.5 µs", "2.00 ms", "3.25 s"]);
     }
 }

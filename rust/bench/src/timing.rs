@@ -10,30 +10,36 @@ pub const ENOUGH: Duration = Duration::from_millis(300);
 /// After this long a thing is not run again, however few its runs.
 pub const TOO_MUCH: Duration = Duration::from_secs(3);
 
-/// The library's and the twin's time for the same thing.
+/// The times of the library and of its twin for the same thing, and that of the library as it was before, where one is named.
 #[derive(Clone, Copy)]
-pub struct Pair {
+pub struct Times {
     pub library: Duration,
     pub twin: Duration,
+    pub before: Option<Duration>,
 }
 
-impl Pair {
-    /// How many times as long as the twin the library takes.
-    pub fn ratio(&self) -> f64 {
-        self.library.as_secs_f64() / self.twin.as_secs_f64()
+impl Times {
+    /// How much longer than another thing each of them takes.
+    pub fn less(self, other: Times) -> Times {
+        Times {
+            library: self.library.saturating_sub(other.library),
+            twin: self.twin.saturating_sub(other.twin),
+            before: self.before.zip(other.before).map(|(one, other)| one.saturating_sub(other)),
+        }
     }
 }
 
-/// The least times of the library and the twin, which take turns, so that whatever slows the machine down for a while slows both.
-pub fn side_by_side<A, B>(mut library: impl FnMut() -> A, mut twin: impl FnMut() -> B) -> Pair {
-    let mut least = Pair { library: Duration::MAX, twin: Duration::MAX };
+/// The least times of the library, the twin and, where it is named, the library as it was before. They take turns, so that whatever slows
+/// the machine down for a while slows all of them.
+pub fn in_turn<A>(mut things: Vec<impl FnMut() -> A>) -> Times {
+    let mut least = vec![Duration::MAX; things.len()];
     let mut runs = Runs::default();
     while runs.go_on() {
-        let (one, other) = (time(&mut library), time(&mut twin));
-        least = Pair { library: least.library.min(one), twin: least.twin.min(other) };
-        runs.took(one.min(other));
+        let times: Vec<Duration> = things.iter_mut().map(time).collect();
+        runs.took(*times.iter().min().expect("something is timed"));
+        least = least.iter().zip(times).map(|(least, time)| time.min(*least)).collect();
     }
-    least
+    Times { library: least[0], twin: least[1], before: least.get(2).copied() }
 }
 
 /// The least time of a thing by itself.

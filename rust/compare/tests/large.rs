@@ -1,6 +1,6 @@
 //! Days as large as the limits allow: the library ends on them, and agrees with the twin in every field and every number of the buffer.
 
-use days::{lift_day, nested_day, Day, Label};
+use days::{apart_day, halves_day, lift_day, nested_day, Day, Label};
 use roadthrum::Refusal;
 use twin::Page;
 
@@ -151,6 +151,20 @@ fn lift_days_of_the_most_labels() {
         assert_eq!(put(&index, &"//call".repeat(32)), 0);
         assert_eq!(put(&index, "//lobby"), 0);
         put_at_the_edges(&index, "//call[//cancel]//board");
+    }
+}
+
+#[test]
+fn looks_near_and_far() {
+    let index = lawful(&halves_day(MOST_LABELS));
+    assert_eq!(put(&index, &format!("//half{}", "[//t]".repeat(31))), 1);
+    assert_eq!(put(&index, "//half//t"), MOST_LABELS / 2);
+    for distance in [1, 3, 20, 500, 30_000] {
+        let day = apart_day(47, MOST_LABELS, distance);
+        let around = day.lists[b"a".as_slice()].len();
+        assert_eq!(put(&lawful(&day), "//a[//b]"), around);
+        assert_eq!(put(&lawful(&day), "//a[//b]//b"), around);
+        assert_eq!(put(&lawful(&day), "//b//a"), 0);
     }
 }
 

@@ -4,14 +4,18 @@
 
 #![forbid(unsafe_code)]
 
+mod apart;
 #[cfg(test)]
 mod deepest;
+mod halves;
 mod index;
 mod lift;
 mod nested;
 mod seeded;
 mod small;
 
+pub use apart::apart_day;
+pub use halves::halves_day;
 pub use index::{Day, Label};
 pub use lift::lift_day;
 pub use nested::nested_day;

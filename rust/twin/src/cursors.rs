@@ -1,6 +1,6 @@
 //! One cursor for each step, and how they move. No cursor ever moves back.
 
-use crate::label::{Label, List};
+use crate::label::{started_from, Label, List};
 
 /// A step with its list found.
 pub struct Step<'a> {
@@ -36,7 +36,7 @@ impl<'a> Cursors<'a> {
             let start = Label::read(here).start;
             let over = Label::read(&self.steps[u].list[self.at[u] as usize]);
             if start <= over.start {
-                self.at[s] = step.list.partition_point(|label| Label::read(label).start <= over.start) as u32;
+                self.at[s] = started_from(step.list, self.at[s] as usize + 1, over.start) as u32;
             } else if over.end < start {
                 self.at[u] += 1;
                 s = u;

@@ -1,0 +1,54 @@
+//! Whoever answers: the library, its twin, and the library as it was before, where one is named.
+
+use roadthrum::raw;
+use twin::Page;
+
+/// A call for rows.
+#[derive(Clone, Copy)]
+pub enum Call {
+    Answer,
+    Evidence,
+}
+
+pub trait Contender {
+    /// The refusal of the index, or 0.
+    fn check(&self, index: &[u8]) -> u32;
+
+    /// The first page of a call, with its rows in `out`.
+    fn rows(&self, call: Call, index: &[u8], question: &[u8], out: &mut [u32]) -> Page;
+}
+
+pub struct Library;
+
+impl Contender for Library {
+    fn check(&self, index: &[u8]) -> u32 {
+        raw::check(index)
+    }
+
+    fn rows(&self, call: Call, index: &[u8], question: &[u8], out: &mut [u32]) -> Page {
+        page_of(match call {
+            Call::Answer => raw::answer(index, question, 0, out),
+            Call::Evidence => raw::evidence(index, question, 0, out),
+        })
+    }
+}
+
+pub struct Twin;
+
+impl Contender for Twin {
+    fn check(&self, index: &[u8]) -> u32 {
+        twin::check(index)
+    }
+
+    fn rows(&self, call: Call, index: &[u8], question: &[u8], out: &mut [u32]) -> Page {
+        match call {
+            Call::Answer => twin::answer(index, question, 0, out),
+            Call::Evidence => twin::evidence(index, question, 0, out),
+        }
+    }
+}
+
+/// The library's four numbers in the twin's form.
+pub fn page_of([refusal, rows, more, next]: [u32; 4]) -> Page {
+    Page { refusal, rows: rows as usize, more: more != 0, next }
+}

@@ -1,4 +1,5 @@
--- Searching a body whose labels ascend by start: each look at one of them settles all those on its one side. Both searches rest on this.
+-- Searching a body whose labels ascend by start: a look at one of them settles all those on its one side. The doubling and the halving both
+-- rest on this.
 use Prim.Native.Nat.{ℕ, _+_, _≤_, _<_}
 use native.Mathlib.Nat.{eq-or-lt-of-le}
 use native.Mathlib.Omega.{arith}

@@ -64,8 +64,8 @@ pub fn label_at(s: &[u8], at: usize, i: usize) -> Label
     }
 }
 
-// Whether label i of the body that begins at `at` starts at or before `v`. A search looks at labels by this alone: it reads starts, and never
-// an end.
+// Whether label i of the body that begins at `at` starts at or before `v`. A search looks at labels by this alone, so that it reads starts and
+// never an end.
 fn starts_by(s: &[u8], at: usize, i: usize, v: u32) -> bool
     requires { ⌜ at + 8 * i + 8 ≤ length (now s) ⌝ }
     ensures { λ r. ⌜ Decides (labelAt (now (s .entry)) at i .start ≤ v) r ⌝ }
@@ -77,8 +77,8 @@ fn starts_by(s: &[u8], at: usize, i: usize, v: u32) -> bool
 }
 
 // How many of the n labels of the body that begins at `at` start at or before `v`, where that is a number from `low` to `high`. They ascend
-// by start, so a look at the one in the middle of those that are left settles one half of them. How many are left does not depend on
-// what was found there, so that a round waits for one choice only.
+// by start, so a look at the one in the middle of those that are left settles one half of them. How many are left then is the same whichever
+// half it is, so that a turn has one choice only.
 fn halved(s: &[u8], at: usize, n: usize, v: u32, low: usize, high: usize) -> usize
     requires { ⌜ (at + 8 * n ≤ length (now s)) × Ascends (now s) at n × Between (now s) at n v low high ⌝ }
     ensures { λ r. ⌜ Started (now (s .entry)) at n v r ⌝ }
@@ -95,9 +95,9 @@ fn halved(s: &[u8], at: usize, n: usize, v: u32, low: usize, high: usize) -> usi
     base
 }
 
-// How many of the n labels of the body that begins at `at` start at or before `v`, where the first `from` are known to. The one asked for
-// is mostly near: so the next label is looked at first, and then each time one as far again from there, until one starts after `v`.
-// What lies between the last two is halved.
+// How many of the n labels of the body that begins at `at` start at or before `v`, where the first `from` do. Mostly it is few more: so the
+// next label is looked at first, then one as far again from there each time, until one starts after `v` or the list ends. Between the last
+// two the number is found by halving.
 pub fn started_from(s: &[u8], at: usize, n: usize, from: usize, v: u32) -> usize
     requires { ⌜ (at + 8 * n ≤ length (now s)) × Ascends (now s) at n × Between (now s) at n v from n ⌝ }
     ensures { λ r. ⌜ Started (now (s .entry)) at n v r ⌝ }

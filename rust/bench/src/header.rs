@@ -1,9 +1,10 @@
 //! When and where the measurements were made, and how.
 
+use crate::measure::Contenders;
 use crate::{libxml2, rival, timing};
 use std::time::SystemTime;
 
-pub fn print() {
+pub fn print(contenders: &Contenders) {
     println!("# Benchmarks\n");
     println!("- Date (UTC): {}", today());
     println!("- Processor: {}, {} cores", processor(), std::thread::available_parallelism().map_or(1, usize::from));
@@ -14,6 +15,9 @@ pub fn print() {
         None => println!("- libxml2 was skipped because it is not installed."),
     }
     how_the_twin_is_measured();
+    if contenders.with_before() {
+        println!("\nThe library as it was before is loaded as a shared library; it takes its turn, and has to agree as well.");
+    }
     if rival.is_some() {
         how_libxml2_is_measured();
     }

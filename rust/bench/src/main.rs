@@ -45,7 +45,7 @@ fn main() -> ExitCode {
 
 fn measure_all() -> Result<(), Failure> {
     let contenders = measure::Contenders::named()?;
-    header::print();
+    header::print(&contenders);
     lift::print(&contenders)?;
     nested::print(&contenders)?;
     far::print(&contenders)?;

@@ -1,5 +1,5 @@
 -- `label::started_from` meets its contract. What keeps the loop: the number asked for is at least `low`, and `low` is at most `high`.
-use Prim.Native.Nat.{_-_, _≤_}
+use Prim.Native.Nat.{ℕ, _-_, _≤_}
 use native.Mathlib.Omega.{arith}
 use native.Mathlib.Nat.{lt-of-not-le}
 use mathlib.Core.Logic.{⊎-elim}
@@ -39,25 +39,30 @@ loop-again c =
     let asc = turn .before .before .before .pre .1 in
     let w = turn .before .loop .inv .0 in
     let early = if-true (c .before .starts-by .ensures) (c .if1 .taken) in
-    (settle-up _ _ _ _ asc w _ _ _ (omega arith) (omega arith) (omega arith) (omega arith) (omega arith) early, omega arith, omega arith)
+    (settle-up _ _ _ _ asc w (turn .before .loop .high) _ _ (omega arith) (omega arith) (omega arith) (omega arith) (omega arith) early, omega arith, omega arith)
 
+-- How many labels there are, where the doubling is over.
+abbrev end : tie.Joined2 Inv-loop μ-loop → ℕ
+end c = c .before .before .before .before .args .n
+
+-- What the last step is cut to: it goes no further than the list's end, and falls short only of that.
+cut : (c : tie.Joined2 Inv-loop μ-loop) → (c .if2 .high ≤ end c) × ((k : ℕ) → k ≤ c .before .before .loop .high → k ≤ end c → k ≤ c .if2 .high)
+cut c =
+    ⊎-elim
+    (λ t. (omega (arith, t .1), λ k a b. omega (arith, t .1)))
+    (λ e. (omega (arith, e .0 .left, e .1), λ k a b. omega (arith, e .1)))
+    (c .if2 .came)
+
+-- The doubling stopped at a label that starts after v, or the list ended.
 halved-requires : tie.Need-halved-requires Inv-loop μ-loop
 halved-requires c κs =
-    let at-loop = c .before .before in
-    let asc = at-loop .before .before .pre .1 in
-    let w = at-loop .loop .inv .0 in (
-      at-loop .before .before .pre .0,
-      asc,
+    let pre = c .before .before .before .before .pre in
+    let w = c .before .before .loop .inv .0 in (
+      pre .0,
+      pre .1,
       ⊎-elim
-          (λ stopped. ⊎-elim
-          (λ t. absurd (omega (arith, stopped .0 .taken, t .0 .taken)))
-          (λ e. let late = lt-of-not-le (if-false (stopped .1 .ensures) (stopped .2 .left)) in
-          settle-down _ _ _ _ asc w _ _ _ (omega arith) (omega (arith, e .1)) (omega (arith, e .1)) (omega (arith, e .0 .left, e .1)) late)
-          (c .if2 .came))
-          (λ ended. ⊎-elim
-          (λ t. widen _ _ _ _ w _ _ (omega arith) (omega (arith, t .1)) (omega (arith, t .1)))
-          (λ e. widen _ _ _ _ w _ _ (omega arith) (omega (arith, ended .left, e .1)) (omega (arith, e .0 .left, e .1)))
-          (c .if2 .came))
+          (λ stopped. settle-down _ _ _ _ (pre .1) w _ _ _ (omega arith) (cut c .1 _ (omega arith) (omega (arith, stopped .0 .taken))) (cut c .1 _ (omega arith) (omega arith)) (cut c .0) (lt-of-not-le (if-false (stopped .1 .ensures) (stopped .2 .left))))
+          (λ ended. widen _ _ _ _ w _ _ (omega arith) (cut c .1 _ (ended .left) (omega arith)) (cut c .0))
           (c .before .loop-test .came),
     )
 

@@ -13,8 +13,8 @@ pub record Started (b : List ℕ) (at n v r : ℕ) : Type 0 where
   pub first : (i : ℕ) → i < r → labelAt b at i .start ≤ v
   pub rest : (i : ℕ) → r ≤ i → i < n → v < labelAt b at i .start
 
--- r, how many of the n labels of the body that begins at a place start at or before v, is a number from `low` to `high`: the first `low` do,
--- and those from `high` on do not.
+-- How many of the n labels of the body that begins at a place start at or before v is a number from `low` to `high`: the first `low` do, and
+-- those from `high` on do not.
 pub record Between (b : List ℕ) (at n v low high : ℕ) : Type 0 where
   pub ordered : low ≤ high
   pub within : high ≤ n

@@ -29,6 +29,7 @@ fn look(index: &[u8], at: usize, n: usize, p: usize, over: usize, q: usize) -> S
     let here = label::start_at(index, at, p);
     let above = label::start_at(index, over, q);
     if here <= above {
+        // Record p and those before it start no later, so that the search begins behind them.
         return Sight::Early(label::started_from(index, at, n, p + 1, above));
     }
     let last = label::end_at(index, over, q);

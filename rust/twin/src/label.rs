@@ -19,8 +19,8 @@ impl Label {
     }
 }
 
-/// How many labels of the list start at or before `number`, where the first `from` do. The next label is looked at first, and then each time one
-/// as far again from there; what lies between the last two is halved.
+/// How many labels of the list start at or before `number`, where the first `from` do. The next label is looked at first, then one as
+/// far again from there each time; what lies between the last two is halved.
 pub fn started_from(list: List, from: usize, number: u32) -> usize {
     let starts_by = |label: &[u8; Label::BYTES]| Label::read(label).start <= number;
     let rest = &list[from..];
@@ -36,9 +36,9 @@ pub fn started_from(list: List, from: usize, number: u32) -> usize {
 mod tests {
     use super::started_from;
 
-    /// Lists of all lengths up to 40 with starts 1, 3, 5 and so on, from every place from which a number may be looked for.
+    /// Lists of all lengths below 40 with starts 1, 3, 5 and so on, of which so many are at most a number as half of it, rounded up.
     #[test]
-    fn finds_what_halving_finds() {
+    fn finds_the_number_from_every_place_before_it() {
         for length in 0..40 {
             let list: Vec<[u8; 8]> = (0..length).map(|i| (u64::from(2 * i + 1) | u64::from(2 * i + 2) << 32).to_le_bytes()).collect();
             for number in 0..=2 * length {

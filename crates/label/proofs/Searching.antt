@@ -1,12 +1,10 @@
 -- Searching a body whose labels ascend by start: a look at one of them settles all those on its one side. The doubling and the halving both
 -- rest on this.
 use Prim.Native.Nat.{ℕ, _+_, _≤_, _<_}
-use native.Mathlib.Nat.{eq-or-lt-of-le}
 use native.Mathlib.Omega.{arith}
-use mathlib.Core.Path.{_≡_, ap}
-use mathlib.Core.Logic.{_⊎_, inl, inr}
 use mathlib.Core.List.{List}
 use Rattle.meaning.specs.Day.{labelAt}
+use Rattle.meaning.proofs.Laws.Label.{no-later}
 use Rattle.label.specs.Started.{Ascends, Between, Started}
 
 module _ (b : List ℕ) (at n v : ℕ) where
@@ -31,30 +29,21 @@ module _ (b : List ℕ) (at n v : ℕ) where
     rest = λ j k. w .rest j (omega arith);
   }
 
-  module _ (ascends : Ascends b at n) where
-    -- Of two labels in order the first never starts later.
-    no-later : (i j : ℕ) → i ≤ j → j < n → labelAt b at i .start ≤ labelAt b at j .start
-    no-later i j ij jn = go (eq-or-lt-of-le ij)
-      where
-        go : (i ≡ j) ⊎ (i < j) → labelAt b at i .start ≤ labelAt b at j .start
-        go (inl e) = omega (arith, ap (λ (k : ℕ). labelAt b at k .start) e)
-        go (inr l) = omega (arith, ascends i j l jn)
+  module _ (ascends : Ascends b at n) {low high : ℕ} (w : Between b at n v low high) (i l h : ℕ) where
+    -- Label i starts at or before v: the number is more than i.
+    pub settle-up : l ≤ i + 1 → high ≤ h → l ≤ h → h ≤ n → i < n → labelAt b at i .start ≤ v → Between b at n v l h
+    settle-up li hh lh hn il here = record {
+      ordered = lh;
+      within = hn;
+      first = λ j k. omega (arith, no-later (labelAt b at) n ascends j i (omega arith) il);
+      rest = λ j k. w .rest j (omega arith);
+    }
 
-    module _ {low high : ℕ} (w : Between b at n v low high) (i l h : ℕ) where
-      -- Label i starts at or before v: the number is more than i.
-      pub settle-up : l ≤ i + 1 → high ≤ h → l ≤ h → h ≤ n → i < n → labelAt b at i .start ≤ v → Between b at n v l h
-      settle-up li hh lh hn il here = record {
-        ordered = lh;
-        within = hn;
-        first = λ j k. omega (arith, no-later j i (omega arith) il);
-        rest = λ j k. w .rest j (omega arith);
-      }
-
-      -- Label i starts after v: the number is at most i.
-      pub settle-down : l ≤ low → i ≤ h → l ≤ h → h ≤ n → v < labelAt b at i .start → Between b at n v l h
-      settle-down ll ih lh hn here = record {
-        ordered = lh;
-        within = hn;
-        first = λ j k. w .first j (omega arith);
-        rest = λ j k m. omega (arith, no-later i j (omega arith) m);
-      }
+    -- Label i starts after v: the number is at most i.
+    pub settle-down : l ≤ low → i ≤ h → l ≤ h → h ≤ n → v < labelAt b at i .start → Between b at n v l h
+    settle-down ll ih lh hn here = record {
+      ordered = lh;
+      within = hn;
+      first = λ j k. w .first j (omega arith);
+      rest = λ j k m. omega (arith, no-later (labelAt b at) n ascends i j (omega arith) m);
+    }

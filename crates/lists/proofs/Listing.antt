@@ -8,6 +8,7 @@ use mathlib.Core.Logic.{inl, inr, ⊎-elim}
 use Rattle.meaning.specs.declared.Label.{Label}
 use Rattle.meaning.specs.Labels.{Lists, Unordered}
 use Rattle.meaning.proofs.Decide.{or-not, lt-decides}
+use Rattle.meaning.proofs.Laws.Label.{no-later}
 use Rattle.lists.specs.Ordering.{Disordered, ListWrong, Ordered, backward, descent}
 
 -- The first i of n labels are right, and the next has to start at `low` or later.
@@ -42,7 +43,7 @@ module _ (n : ℕ) (label : ℕ → Label) where
       where
         -- Each of the first i labels starts before label i.
         last : (j k : ℕ) → i ≡ suc k → j ≤ k → label j .start < label i .start
-        last j k e jk = ⊎-elim (λ f. omega (arith, w .after k e, ap (λ (m : ℕ). label m .start) f)) (λ f. omega (arith, w .after k e, w .ascending j k f (omega arith))) (eq-or-lt-of-le jk)
+        last j k e jk = omega (arith, w .after k e, no-later label i (w .ascending) j k jk (omega arith))
 
         up : (j k : ℕ) → j < k → k ≡ i → label j .start < label k .start
         up j zero jk e = absurd (omega arith)

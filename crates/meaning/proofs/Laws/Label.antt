@@ -1,7 +1,9 @@
--- Inside is proper, and lists for which refusals 5 and 6 find nothing are just the lawful ones.
-use Prim.Native.Nat.{ℕ, _<_}
+-- Inside is proper, of labels that ascend the one before starts no later, and lists for which refusals 5 and 6 find nothing are just the
+-- lawful ones.
+use Prim.Native.Nat.{ℕ, _≤_, _<_}
+use native.Mathlib.Nat.{eq-or-lt-of-le}
 use native.Mathlib.Omega.{arith}
-use mathlib.Core.Path.{sym}
+use mathlib.Core.Path.{sym, ap}
 use mathlib.Core.Logic.{_⊎_, inl, inr, _≢_, ⊎-elim}
 use Rattle.meaning.specs.declared.Label.{Label}
 use Rattle.meaning.specs.Labels.{Inside, Apart, Different, Lists, Place, labelOf, Holds, Nested, LawfulLists, Unordered, Share, Cross, Clash, Tangled}
@@ -18,6 +20,10 @@ inside-proper a h = omega (arith, h .after)
 -- What lies inside a label that lies inside a third lies inside the third.
 pub inside-further : (a b c : Label) → Inside a b → Inside b c → Inside a c
 inside-further a b c h k = record { after = omega (arith, h .after, k .after); before = omega (arith, h .before, k .before) }
+
+-- Of labels that ascend by start the one before starts no later.
+pub no-later : (label : ℕ → Label) (n : ℕ) → ((i j : ℕ) → i < j → j < n → label i .start < label j .start) → (i j : ℕ) → i ≤ j → j < n → label i .start ≤ label j .start
+no-later label n ascends i j ij jn = ⊎-elim (λ e. omega (arith, ap (λ (k : ℕ). label k .start) e)) (λ l. omega (arith, ascends i j l jn)) (eq-or-lt-of-le ij)
 
 -- 65 nested labels are refused, and no fewer are refused for being so many.
 pub nested-over : (t : Lists) (c : ℕ → Place) → Nested t 65 c → Tangled t

@@ -1,13 +1,13 @@
 -- The picks of a question over a fit day are closed under taking the earlier record at every step.
 use Prim.Native.Nat.{ℕ, _≤_, _<_, min}
-use native.Mathlib.Nat.{eq-or-lt-of-le}
 use native.Mathlib.Omega.{arith}
-use mathlib.Core.Path.{_≡_, refl, ap, subst, subst₂}
+use mathlib.Core.Path.{_≡_, refl, ap, subst₂}
 use mathlib.Core.Logic.{_⊎_, inl, inr, ⊎-elim}
 use Rattle.meaning.specs.Labels.{Inside, Apart}
 use Rattle.meaning.specs.Notation.{Hook, nothing, from}
 use Rattle.meaning.specs.Picks.{Asked, Edge, Hung, Pick}
 use Rattle.meaning.proofs.Decide.{or-not, le-decides}
+use Rattle.meaning.proofs.Laws.Label.{no-later}
 use Rattle.meaning.specs.Fit.{Fit}
 
 -- At every step the earlier of two records.
@@ -21,7 +21,7 @@ either-way m n = ⊎-elim (λ l. inl l) (λ l. inr (omega arith)) (or-not (le-de
 module _ (a : Asked) (fit : Fit a) where
   -- In one list the earlier record starts no later.
   pub earlier-starts : (s i j : ℕ) → i ≤ j → j < a .count s → a .label s i .start ≤ a .label s j .start
-  earlier-starts s i j ij jl = ⊎-elim (λ e. subst (λ (k : ℕ). a .label s i .start ≤ a .label s k .start) e (omega arith)) (λ l. omega (arith, fit .ascending s i j l jl)) (eq-or-lt-of-le ij)
+  earlier-starts s = no-later (a .label s) (a .count s) (fit .ascending s)
 
   -- Records are nested or apart, so that a record which starts within another lies inside it. What else is known of picks rests on this
   -- use of nesting.

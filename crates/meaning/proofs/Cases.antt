@@ -8,6 +8,7 @@ pub mod Stars
 pub mod Index
 pub mod Call
 pub mod Calls
+pub mod Unknown
 pub mod Lines
 use Prim.Native.Nat.{ℕ, _≤_}
 use mathlib.Core.Path.{_≡_}
@@ -26,8 +27,8 @@ pub data Room : Type 0 where
   ample : Room
   just : ℕ → Room
 
--- A question put to an index, as a row of the table: the place, the room, and the outcome: positions, evidence rows, more, next place.
--- The tree is not part of the table: it shows that the text follows the notation.
+-- A question put to an index, as a row of the table: the place, the room, and the outcome: positions, evidence rows, more, next place,
+-- unknown step. The tree is not part of the table: it shows that the text follows the notation.
 pub record Asking : Type 0 where
   pub index : List ℕ
   pub text : List ℕ
@@ -38,6 +39,7 @@ pub record Asking : Type 0 where
   pub rows : List (List ℕ)
   pub more : Bool
   pub next : ℕ
+  pub unknown : ℕ
 
 -- A row of the table: a question, an index with the number that the check call gives, or a lawful index without records.
 pub data Case : Type 0 where
@@ -57,7 +59,7 @@ joined (w ∷ ws) = w ++ joined ws
 
 -- The result that the table says.
 abbrev pub resultOf : Asking → Page
-resultOf c = record { refusal = 0; rows = length (c .positions); more = c .more; next = c .next }
+resultOf c = record { refusal = 0; rows = length (c .positions); more = c .more; next = c .next; unknown = c .unknown }
 
 -- The buffer after rows were written to its beginning.
 abbrev pub over : List ℕ → List ℕ → List ℕ

@@ -9,6 +9,7 @@ pub mod Step
 pub mod Pick
 pub mod Evidence
 pub mod Record
+pub mod Found
 pub mod Page
 pub mod Walk
 pub mod Table

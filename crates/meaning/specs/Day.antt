@@ -7,6 +7,8 @@ use mathlib.Core.List.{List}
 use lib.ListN.{length, take, drop}
 use Rattle.meaning.specs.declared.Label.{Label}
 use Rattle.meaning.specs.declared.Body.{Body}
+use Rattle.meaning.specs.declared.Found.{Found}
+use Rattle.meaning.specs.declared.Found.the-variants.{Known, Unknown}
 use Rattle.meaning.specs.Limits.{mostTags, mostLabels, mostName}
 use Rattle.meaning.specs.Bytes.{u16At, u32At}
 use Rattle.meaning.specs.Labels.{Lists, Unordered, Tangled}
@@ -60,6 +62,16 @@ listsOf b = record { many = tags b; count = count b; label = λ r i. labelAt b (
 -- The list of row r, as where its body begins and its number of labels.
 abbrev pub rowList : List ℕ → ℕ → Body
 rowList b r = record { offset = offset b r; count = count b r }
+
+-- Row r of the index has the name.
+abbrev pub Has : List ℕ → List ℕ → ℕ → Type 0
+Has b n r = (r < tags b) × (nameField b r ≡ filled n)
+
+-- What looking up a name finds, case by case: a known list is that of a row that has the name, with the row's offset and number of labels,
+-- which may be 0; a name is unknown where no row has it.
+abbrev pub Finds : List ℕ → List ℕ → Found → Type 0
+Finds b n (Known l) = (r : ℕ) × Has b n r × (l ≡ rowList b r)
+Finds b n Unknown = (r : ℕ) → Has b n r → ⊥
 
 -- The list of a name among the first r rows; a name without a row has no records.
 unfoldable pub listAmong : List ℕ → List ℕ → ℕ → Body

@@ -1,4 +1,4 @@
--- Pages: the records of a call, its rows in the lent buffer, and its result.
+-- Pages: the records of a call, its rows in the lent buffer, the step whose name is unknown, and its result.
 use Prim.Native.Nat.{ℕ, _≤_, _<_, _/_, min}
 use mathlib.Core.Path.{_≡_}
 use mathlib.Core.Logic.{_⊎_}
@@ -7,7 +7,10 @@ use mathlib.Core.List.{List, [], _∷_, _++_}
 use lib.Dec.{ltb}
 use lib.ListN.{length, take, drop, getD}
 use Rattle.meaning.specs.declared.Page.{Page}
-use Rattle.meaning.specs.Picks.{Asked, Returned}
+use Rattle.meaning.specs.declared.Found.the-variants.{Unknown}
+use Rattle.meaning.specs.Day.{Finds}
+use Rattle.meaning.specs.Notation.{Path, steps}
+use Rattle.meaning.specs.Picks.{Asked, Returned, stepAt}
 
 -- The list holds i.
 abbrev pub In : ℕ → List ℕ → Type 0
@@ -56,10 +59,28 @@ pub record Paged (a : Asked) (Row : ℕ → List ℕ → Type 0) (place room : �
   pub more : r .more ≡ ltb (r .rows) (length all)
   pub next : r .next ≡ getD all (r .rows) (a .count (a .returned))
 
--- A refusal: its number, 0 rows, no further record, next place 0, and the lent buffer unchanged.
+-- What a result tells in place of a step's number where there is no such step.
+abbrev pub noStep : ℕ
+noStep = 32
+
+-- The first of the steps below `many` of which something holds, or 32 if there is none.
+pub data First (Such : ℕ → Type 0) (many : ℕ) : ℕ → Type 0 where
+  here : {s : ℕ} → s < many → Such s → ((j : ℕ) → j < s → Such j → ⊥) → First Such many s
+  nowhere : ((j : ℕ) → j < many → Such j → ⊥) → First Such many noStep
+
+-- No row of the index has the name of step s.
+abbrev pub NoRow : List ℕ → Path → ℕ → Type 0
+NoRow b p s = Finds b (stepAt p s .name) Unknown
+
+-- The unknown step that a result tells: the first step in text order, in brackets too, whose name has no row, or 32 if there is none.
+abbrev pub FirstUnknown : List ℕ → Path → ℕ → Type 0
+FirstUnknown b p = First (NoRow b p) (steps p)
+
+-- A refusal: its number, 0 rows, no further record, next place 0, no unknown step, and the lent buffer unchanged.
 pub record Refused (n : ℕ) (entry exit : List ℕ) (r : Page) : Type 0 where
   pub buffer : exit ≡ entry
   pub refusal : r .refusal ≡ n
   pub rows : r .rows ≡ 0
   pub more : r .more ≡ false
   pub next : r .next ≡ 0
+  pub unknown : r .unknown ≡ noStep

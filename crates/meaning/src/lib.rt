@@ -1,8 +1,9 @@
 // What the public results are made of, and the limits of document 01, for every crate to share.
 ghost use mathlib.Core.Path.{_≡_};
 ghost use Rattle.meaning.specs.Limits.{mostTags, mostLabels, mostNested, mostName, mostText, mostSteps, mostDepth};
+ghost use Rattle.meaning.specs.Pages.{noStep};
 
-// What a call says of the page that it wrote. A refusal has its number, 0 rows, no further record and next place 0.
+// What a call says of the page that it wrote. A refusal has its number, 0 rows, no further record, next place 0 and no unknown step.
 pub struct Page {
     // The number of the refusal table, or 0.
     pub refusal: u32,
@@ -12,6 +13,19 @@ pub struct Page {
     pub more: bool,
     // The place from which the next page goes on.
     pub next: u32,
+    // The first step whose name has no row in the index, or NO_STEP.
+    pub unknown: u32,
+}
+
+impl Page {
+    // What a page tells in place of a step's number where no step's name is unknown.
+    pub const NO_STEP: u32 = 32;
+
+    pub fn no_step() -> u32
+        ensures { λ r. ⌜ r ≡ noStep ⌝ }
+    {
+        Page::NO_STEP
+    }
 }
 
 // A label: the numbers at which a record starts and ends.
@@ -41,6 +55,12 @@ impl Label {
 pub struct Body {
     pub offset: usize,
     pub count: usize,
+}
+
+// What looking up a name finds: the list of the row that has the name, or that no row has it.
+pub enum Found {
+    Known(Body),
+    Unknown,
 }
 
 // A day index.

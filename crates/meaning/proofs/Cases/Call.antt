@@ -45,9 +45,9 @@ pub data Call : Type 0 where
   shows : Asking → List ℕ → List ℕ → Call
   refuses : List ℕ → List ℕ → Why → ℕ → Call
 
--- The result of a refusal: its number, 0 rows, no further record, next place 0.
+-- The result of a refusal: its number, 0 rows, no further record, next place 0, unknown step 32.
 abbrev pub refusalOf : ℕ → Page
-refusalOf n = record { refusal = n; rows = 0; more = false; next = 0 }
+refusalOf n = record { refusal = n; rows = 0; more = false; next = 0; unknown = 32 }
 
 -- Both calls refuse with the number, whatever the place, and leave whatever buffer is lent.
 pub record RefuseRight (b text : List ℕ) (n : ℕ) : Type 0 where

@@ -32,14 +32,14 @@ deep (suc n) = path (97 ∷ []) (bracket (deep n) finish)
 abbrev deepText : ℕ → List ℕ
 deepText n = times n (bytes "//a[") ++ bytes "//a" ++ times n (bytes "]")
 
--- A question put to the empty index, which gives nothing.
+-- A question put to the empty index, which gives nothing and has no row for its first step.
 abbrev nothing-found : List ℕ → Path → Asking
-nothing-found text tree = record { index = empty; text = text; tree = tree; place = 0; room = ample; positions = []; rows = []; more = false; next = 0 }
+nothing-found text tree = record { index = empty; text = text; tree = tree; place = 0; room = ample; positions = []; rows = []; more = false; next = 0; unknown = 0 }
 
 -- `//call[//board]` put to the small day, of whose records 0, 1, 2 and 3 there is room for so many.
 abbrev calls : Room → List ℕ → List (List ℕ) → Bool → ℕ → Asking
 calls room positions rows more after =
-    record { index = smallDay; text = bytes "//call[//board]"; tree = path (bytes "call") (bracket (path (bytes "board") finish) finish); place = 0; room = room; positions = positions; rows = rows; more = more; next = after }
+    record { index = smallDay; text = bytes "//call[//board]"; tree = path (bytes "call") (bracket (path (bytes "board") finish) finish); place = 0; room = room; positions = positions; rows = rows; more = more; next = after; unknown = 32 }
 
 -- An index's number comes before a question's; a text without a byte; 1,025 bytes, and 1,024 bytes of 57 steps; 32 steps and 33; 8 deep and
 -- 9. A buffer of 5 numbers has room for 5 positions or for 2 rows of 2 numbers, and one of 1 number for no such row.

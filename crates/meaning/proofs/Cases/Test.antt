@@ -15,7 +15,7 @@ use Rattle.meaning.specs.Names.{initial, further, allFurther, short, isN
 use Rattle.meaning.specs.Day.{labels, total, listAmong}
 use Rattle.meaning.specs.Notation.{write, Named, Follows, steps, depth, list, lastStep, TooLong, TooLarge}
 use Rattle.meaning.specs.Picks.{Asked, Evidence, asked}
-use Rattle.meaning.specs.Pages.{Rows, none, row, Position, Paged, evidenceRoom}
+use Rattle.meaning.specs.Pages.{Rows, none, row, Position, Paged, FirstUnknown, evidenceRoom}
 use Rattle.meaning.specs.Refusals.{Clear, Lawful, checkTable, questionTable, callTable}
 use Rattle.meaning.specs.Promises.{Checked, page}
 use Rattle.meaning.proofs.Decide.{each, some, passed, le-decides, eq-decides, and-decides, after-decides, sameBool, bool-decides}
@@ -26,6 +26,7 @@ use Rattle.meaning.proofs.Laws.Table.{checked-lawful, clear-both}
 use Rattle.meaning.specs.Fit.{Fit}
 use Rattle.meaning.proofs.Laws.Day.{lawful-fit}
 use Rattle.meaning.proofs.Decide.Day.{checkOf, check-agrees}
+use Rattle.meaning.proofs.Decide.Unknown.{noRowB, hereB, firstB, unknownB, unknown-decides}
 use Rattle.meaning.proofs.Decide.Picks.{choose, edgeB, hungB, pickB, somePick, returnedB, undercutB, evidenceB, evidence-decides}
 use Rattle.meaning.proofs.Laws.Record.{filtered, recordsOf, records-of}
 use Rattle.meaning.proofs.Cases.{Room, ample, just, Asking, Case, ask, check, empty, IsRoom, joined, resultOf, over, AskRight, Right, All}
@@ -84,7 +85,7 @@ Written c = (write (c .tree) [] ≡ c .text) × (Named (c .tree) × ((length (c 
 
 -- What the test finds about a question.
 abbrev Facts : Asking → Type 0
-Facts c = (checkOf (c .index) ≡ 0) × (Written c × Listed c (allOf c))
+Facts c = (checkOf (c .index) ≡ 0) × (Written c × (FirstUnknown (c .index) (c .tree) (c .unknown) × Listed c (allOf c)))
 
 unfoldable pub listedB : Asking → List ℕ → Bool
 listedB c all =
@@ -95,7 +96,7 @@ unfoldable pub writtenB : Asking → Bool
 writtenB c = same (write (c .tree) []) (c .text) && (namedB (c .tree) && (leb (length (c .text)) mostText && (leb (steps (c .tree)) mostSteps && leb (depth (c .tree)) mostDepth)))
 
 unfoldable pub askB : Asking → Bool
-askB c = elim (eqb (checkOf (c .index)) 0) [ true ↦ writtenB c && listedB c (allOf c) | false ↦ false ]
+askB c = elim (eqb (checkOf (c .index)) 0) [ true ↦ writtenB c && (unknownB (c .index) (c .tree) (c .unknown) && listedB c (allOf c)) | false ↦ false ]
 
 listed-decides : (c : Asking) → Fit (asked (c .index) (c .tree)) → (all : List ℕ) → Decides (Listed c all) (listedB c all)
 unfolding listedB
@@ -120,10 +121,11 @@ ask-decides : (c : Asking) → Decides (Facts c) (askB c)
 unfolding askB
 ask-decides c =
     after-decides (eq-decides (checkOf (c .index)) 0)
-    (λ e. and-decides (written-decides c) (listed-decides c (lawful-fit (c .index) (c .tree) (zero-lawful (c .index) e)) (allOf c)))
+    (λ e. and-decides (written-decides c)
+    (and-decides (unknown-decides (c .index) (c .tree) (c .unknown)) (listed-decides c (lawful-fit (c .index) (c .tree) (zero-lawful (c .index) e)) (allOf c))))
 
 -- These facts are what is said of the question.
-module _ (c : Asking) (e : checkOf (c .index) ≡ 0) (w : Written c) (l : Listed c (allOf c)) where
+module _ (c : Asking) (e : checkOf (c .index) ≡ 0) (w : Written c) (u : FirstUnknown (c .index) (c .tree) (c .unknown)) (l : Listed c (allOf c)) where
   abbrev a : Asked
   a = asked (c .index) (c .tree)
 
@@ -172,17 +174,17 @@ module _ (c : Asking) (e : checkOf (c .index) ≡ 0) (w : Written c) (l : Listed
 
   ask-right : AskRight c
   ask-right = record {
-    answered = λ entry fits. page clear follows (page-of Position (c .positions) (position-rows (c .positions)) (length entry) entry fits);
-    shown = λ entry fits. page clear follows (page-of (Evidence a) (joined (c .rows)) (each-rows a (c .positions) (c .rows) (l .1 .1 .1)) (evidenceRoom a (length entry)) entry fits);
+    answered = λ entry fits. page clear follows (page-of Position (c .positions) (position-rows (c .positions)) (length entry) entry fits) u;
+    shown = λ entry fits. page clear follows (page-of (Evidence a) (joined (c .rows)) (each-rows a (c .positions) (c .rows) (l .1 .1 .1)) (evidenceRoom a (length entry)) entry fits) u;
   }
 
 -- A question that passes its test is right.
 pub ask-sound : (c : Asking) → T (askB c) → AskRight c
-ask-sound c t = let f = passed (ask-decides c) t in ask-right c (f .0) (f .1 .0) (f .1 .1)
+ask-sound c t = let f = passed (ask-decides c) t in ask-right c (f .0) (f .1 .0) (f .1 .1 .0) (f .1 .1 .1)
 
 -- The test of a case. Whoever unfolds it unfolds all that it computes with.
 unfoldable pub rightB : Case → Bool
-unfolding checkOf u32At labels listAmong initial further allFurther short isName same write steps depth list lastStep asked each some choose edgeB hungB pickB somePick returnedB undercutB evidenceB filtered recordsOf namedB eachB listedB writtenB askB
+unfolding checkOf u32At labels listAmong initial further allFurther short isName same write steps depth list lastStep asked each some choose edgeB hungB pickB somePick returnedB undercutB evidenceB filtered recordsOf namedB noRowB hereB firstB unknownB eachB listedB writtenB askB
 rightB (ask c) = askB c
 rightB (check b n) = eqb (checkOf b) n
 rightB (empty b) = eqb (checkOf b) 0 && eqb (total b) 0

@@ -48,7 +48,7 @@ few-records {b} {text} law f place all rec =
 pub few-rows : {Row : Asked → ℕ → List ℕ → Type 0} {room : Asked → ℕ → ℕ} {b text entry exit : List ℕ} {place : ℕ} {r : Page}
     → Outcome (callTable b text) Row room b text place entry exit r → r .rows ≤ mostLabels
 few-rows (refused g x) = omega (arith, x .rows)
-few-rows {b = b} {text = text} (page c f p) = omega (arith, p .rows, few-records (clear-first (checkTable b) (questionTable text) c) f _ (p .all) (p .records))
+few-rows {b = b} {text = text} (page c f p u) = omega (arith, p .rows, few-records (clear-first (checkTable b) (questionTable text) c) f _ (p .all) (p .records))
 
 -- More than 1,048,576 records are returned.
 abbrev Many : List ℕ → List ℕ → Type 0

@@ -2,13 +2,15 @@
 use Prim.Native.Nat.{ℕ, _≤_, _<_}
 use native.Mathlib.Omega.{arith}
 use mathlib.Core.Path.{_≡_, refl, sym, _∙_, subst}
+use mathlib.Core.Logic.{⊎-elim}
 use mathlib.Core.Bool.{true, false, _&&_, true≢false, false≢true, and-eq-true-iff}
 use mathlib.Core.List.{List, [], _∷_, _++_}
-use lib.ListN.{length}
+use lib.ListN.{length, getD}
 use borrow.Author.Tests.{leb-true}
 use Rattle.meaning.specs.Limits.{mostName}
 use Rattle.meaning.specs.Names.{initial, further, allFurther, short, isName, Name, Sooner}
 use Rattle.meaning.specs.Ends.{NoFurther}
+use Rattle.meaning.proofs.Decide.{or-not, lt-decides}
 
 -- A name's first character may also stand behind the first.
 pub initial-further : (c : ℕ) → initial c ≡ true → further c ≡ true
@@ -35,6 +37,21 @@ name-short (c ∷ cs) h =
 -- No name comes before itself, so that rows which ascend by name have different names.
 pub sooner-proper : (x : List ℕ) → Sooner x x → ⊥
 sooner-proper x s = omega (arith, s .less)
+
+-- What comes before something comes before what is behind that.
+pub sooner-on : {x y z : List ℕ} → Sooner x y → Sooner y z → Sooner x z
+sooner-on {x} {y} {z} p q = ⊎-elim before (λ n. ⊎-elim after (λ m. both (omega arith)) (or-not (lt-decides (q .place) (p .place)))) (or-not (lt-decides (p .place) (q .place)))
+  where
+    before : p .place < q .place → Sooner x z
+    before l = record { place = p .place; same = λ i h. p .same i h ∙ q .same i (omega arith); less = omega (arith, p .less, q .same (p .place) l) }
+
+    after : q .place < p .place → Sooner x z
+    after l = record { place = q .place; same = λ i h. p .same i (omega arith) ∙ q .same i h; less = omega (arith, q .less, p .same (q .place) l) }
+
+    both : p .place ≡ q .place → Sooner x z
+    both e =
+        let on : getD y (p .place) 0 < getD z (p .place) 0 = subst (λ (k : ℕ). getD y k 0 < getD z k 0) (sym e) (q .less) in
+        record { place = p .place; same = λ i h. p .same i h ∙ q .same i (omega arith); less = omega (arith, p .less, on) }
 
 -- Where two lists differ in their first bytes, the one with the lesser byte comes first.
 pub sooner-first : (c d : ℕ) (x y : List ℕ) → c < d → Sooner (c ∷ x) (d ∷ y)

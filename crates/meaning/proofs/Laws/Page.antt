@@ -22,13 +22,13 @@ rows-one one none none = refl
 rows-one one (row {i = i} {w = v} x p) (row {w = w} y q) = ap₂ _++_ (one i v w x y) (rows-one one p q)
 
 -- Results with equal fields are equal.
-pub page-≡ : (r r′ : Page) → r .refusal ≡ r′ .refusal → r .rows ≡ r′ .rows → r .more ≡ r′ .more → r .next ≡ r′ .next → r ≡ r′
-page-≡ r r′ a b c d = λ i. record { refusal = a i; rows = b i; more = c i; next = d i }
+pub page-≡ : (r r′ : Page) → r .refusal ≡ r′ .refusal → r .rows ≡ r′ .rows → r .more ≡ r′ .more → r .next ≡ r′ .next → r .unknown ≡ r′ .unknown → r ≡ r′
+page-≡ r r′ a b c d e = λ i. record { refusal = a i; rows = b i; more = c i; next = d i; unknown = e i }
 
--- A page fixes its result and the whole buffer.
-pub paged-fixed : {a : Asked} {Row : ℕ → List ℕ → Type 0} {place room : ℕ} {entry exit exit′ : List ℕ} {r r′ : Page} → One Row
+-- A page fixes the whole buffer, and its result where the unknown step is fixed.
+pub paged-fixed : {a : Asked} {Row : ℕ → List ℕ → Type 0} {place room : ℕ} {entry exit exit′ : List ℕ} {r r′ : Page} → One Row → r .unknown ≡ r′ .unknown
     → Paged a Row place room entry exit r → Paged a Row place room entry exit′ r′ → (r ≡ r′) × (exit ≡ exit′)
-paged-fixed {a} {Row} {place} {room} {entry} {exit} {exit′} {r} {r′} one p q = (page-≡ r r′ (p .refusal ∙ sym (q .refusal)) rows more next, buffer)
+paged-fixed {a} {Row} {place} {room} {entry} {exit} {exit′} {r} {r′} one unknown p q = (page-≡ r r′ (p .refusal ∙ sym (q .refusal)) rows more next unknown, buffer)
   where
     all : p .all ≡ q .all
     all = records-one a place (p .all) (q .all) (p .records) (q .records)
@@ -48,14 +48,14 @@ paged-fixed {a} {Row} {place} {room} {entry} {exit} {exit′} {r} {r′} one p q
     buffer : exit ≡ exit′
     buffer = p .buffer ∙ ap (λ (ws : List ℕ). ws ++ drop (length ws) entry) written ∙ sym (q .buffer)
 
--- What a refusal is, in every field: its number, 0 rows, no further record, next place 0, and the buffer as it was.
-pub refusal-is : (n : ℕ) (entry : List ℕ) → Refused n entry entry (record { refusal = n; rows = 0; more = false; next = 0 })
-refusal-is n entry = record { buffer = refl; refusal = refl; rows = refl; more = refl; next = refl }
+-- What a refusal is, in every field: its number, 0 rows, no further record, next place 0, unknown step 32, and the buffer as it was.
+pub refusal-is : (n : ℕ) (entry : List ℕ) → Refused n entry entry (record { refusal = n; rows = 0; more = false; next = 0; unknown = 32 })
+refusal-is n entry = record { buffer = refl; refusal = refl; rows = refl; more = refl; next = refl; unknown = refl }
 
 -- A refusal fixes its result and the whole buffer.
 pub refused-fixed : {n : ℕ} {entry exit exit′ : List ℕ} {r r′ : Page} → Refused n entry exit r → Refused n entry exit′ r′ → (r ≡ r′) × (exit ≡ exit′)
 refused-fixed {r = r} {r′ = r′} x y =
-    (page-≡ r r′ (x .refusal ∙ sym (y .refusal)) (x .rows ∙ sym (y .rows)) (x .more ∙ sym (y .more)) (x .next ∙ sym (y .next)), x .buffer ∙ sym (y .buffer))
+    (page-≡ r r′ (x .refusal ∙ sym (y .refusal)) (x .rows ∙ sym (y .rows)) (x .more ∙ sym (y .more)) (x .next ∙ sym (y .next)) (x .unknown ∙ sym (y .unknown)), x .buffer ∙ sym (y .buffer))
 
 -- What stands behind the first number of an ascending list is greater.
 later : (all : List ℕ) (n d place : ℕ) → Ascending all → ((i : ℕ) → In i all → place ≤ i) → 1 ≤ n → n < length all → place < getD all n d

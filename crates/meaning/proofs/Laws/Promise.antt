@@ -7,12 +7,13 @@ use lib.ListN.{length}
 use Rattle.meaning.specs.declared.Page.{Page}
 use Rattle.meaning.specs.Notation.{Path}
 use Rattle.meaning.specs.Picks.{Asked, asked}
-use Rattle.meaning.specs.Pages.{Paged, Refused}
+use Rattle.meaning.specs.Pages.{Paged, FirstUnknown, Refused}
 use Rattle.meaning.specs.Refusals.{Table, row, followed, Clear}
 use Rattle.meaning.specs.Promises.{Outcome, refused, page, Answered, Shown}
 use Rattle.meaning.proofs.Laws.Notation.{one-tree}
 use Rattle.meaning.proofs.Laws.Table.{given-one, clear-not-given, given-without, given-with, clear-without, clear-with}
 use Rattle.meaning.proofs.Laws.Evidence.{evidence-one}
+use Rattle.meaning.proofs.Laws.Found.{first-one}
 use Rattle.meaning.proofs.Laws.Page.{One, paged-fixed, refused-fixed}
 
 -- Where a record's row is one, a call's promise fixes its outcome, whatever its table.
@@ -20,11 +21,11 @@ outcome-fixed : {t : Table} {Row : Asked → ℕ → List ℕ → Type 0} {room 
     → Outcome t Row room b text place entry exit r → Outcome t Row room b text place entry exit′ r′ → (r ≡ r′) × (exit ≡ exit′)
 outcome-fixed {t = t} {entry = entry} {exit = exit} {r = r} one (refused {n = m} g x) (refused {n = n} h y) =
     refused-fixed (subst (λ (k : ℕ). Refused k entry exit r) (given-one t m n g h) x) y
-outcome-fixed {t = t} one (refused {n = m} g x) (page c f p) = absurd (clear-not-given t m c g)
-outcome-fixed {t = t} one (page c f p) (refused {n = n} h y) = absurd (clear-not-given t n c h)
-outcome-fixed {t} {Row} {room} {b} {text} {entry} {exit} {exit′} {place} {r} {r′} one (page c f p) (page d g q) =
+outcome-fixed {t = t} one (refused {n = m} g x) (page c f p u) = absurd (clear-not-given t m c g)
+outcome-fixed {t = t} one (page c f p u) (refused {n = n} h y) = absurd (clear-not-given t n c h)
+outcome-fixed {t} {Row} {room} {b} {text} {entry} {exit} {exit′} {place} {r} {r′} one (page c f p u) (page d g q v) =
     let P : Path → Type 0 = λ p. Paged (asked b p) (Row (asked b p)) place (room (asked b p) (length entry)) entry exit r in
-    paged-fixed (one (asked b (g .tree))) (subst P (one-tree f g) p) q
+    paged-fixed (one (asked b (g .tree))) (first-one (subst (λ (p : Path). FirstUnknown b p (r .unknown)) (one-tree f g) u) v) (subst P (one-tree f g) p) q
 
 -- The answer call's promise fixes its result and every number of the buffer.
 pub answered-fixed : {b text entry exit exit′ : List ℕ} {place : ℕ} {r r′ : Page} → Answered b text place entry exit r → Answered b text place entry exit′ r′ → (r ≡ r′) × (exit ≡ exit′)
@@ -39,8 +40,8 @@ shown-fixed = outcome-fixed evidence-one
 module _ (t u : Table) (n : ℕ) (reason : Type 0) (never : Clear t → reason → ⊥) {Row : Asked → ℕ → List ℕ → Type 0} {room : Asked → ℕ → ℕ} {b text entry exit : List ℕ} {place : ℕ} {r : Page} where
   pub kept-without : Outcome (followed t (row n reason u)) Row room b text place entry exit r → Outcome (followed t u) Row room b text place entry exit r
   kept-without (refused {n = m} g x) = refused (given-without t u n reason never m g) x
-  kept-without (page c f p) = page (clear-without t u n reason never c) f p
+  kept-without (page c f p s) = page (clear-without t u n reason never c) f p s
 
   pub kept-with : Outcome (followed t u) Row room b text place entry exit r → Outcome (followed t (row n reason u)) Row room b text place entry exit r
   kept-with (refused {n = m} g x) = refused (given-with t u n reason never m g) x
-  kept-with (page c f p) = page (clear-with t u n reason never c) f p
+  kept-with (page c f p s) = page (clear-with t u n reason never c) f p s

@@ -1,53 +1,21 @@
--- The list of a name among the rows, from the last of them to the first.
-use Prim.Native.Nat.{ℕ, zero, suc, _-_, _≤_, _<_}
+-- Where a name stands among the rows: what a search from the last row to the first leaves, and that a name's list lies within the index.
+use Prim.Native.Nat.{ℕ, zero, suc, _-_, _≤_}
 use native.Mathlib.Omega.{arith}
-use mathlib.Core.Path.{_≡_, refl, sym, ap, _∙_}
+use mathlib.Core.Path.{_≡_, subst}
+use mathlib.Core.Logic.{⊎-elim}
 use mathlib.Core.Bool.{Bool, true, false, cond}
 use mathlib.Core.List.{List}
 use Rattle.meaning.specs.Names.{filled, same}
-use Rattle.meaning.specs.Day.{tags, nameField, rowList, listAmong, listOf}
+use Rattle.meaning.specs.Day.{tags, nameField, rowList, Has, listAmong, listOf}
 use Rattle.meaning.specs.Refusals.{Lawful}
-use Rattle.meaning.specs.Answers.{Decides, holds, fails}
-use Rattle.meaning.proofs.Laws.Same.{same-decides}
+use Rattle.meaning.proofs.Decide.{or-not, le-decides}
 use Rattle.contents.specs.Parts.{Placed, InIndex}
 use Rattle.contents.proofs.Placing.{lawful-placed}
 
--- Lists that are equal pass the test.
-same-yes : (x y : List ℕ) → x ≡ y → same x y ≡ true
-same-yes x y e = go (same x y) (same-decides x y)
-  where
-    go : (a : Bool) → Decides (x ≡ y) a → a ≡ true
-    go true (holds p) = refl
-    go false (fails n) = absurd (n e)
-
--- Lists that are not equal do not pass it.
-same-no : (x y : List ℕ) → (x ≡ y → ⊥) → same x y ≡ false
-same-no x y h = go (same x y) (same-decides x y)
-  where
-    go : (a : Bool) → Decides (x ≡ y) a → a ≡ false
-    go true (holds p) = absurd (h p)
-    go false (fails n) = refl
-
--- The last of `left` rows, which are some.
-module _ (b n : List ℕ) (left : ℕ) (some : 0 < left) where
-  -- It is row left - 1.
-  last-is : suc (left - 1) ≡ left
-  last-is = omega arith
-
-  -- It has the name: its list is the name's.
-  pub among-here : nameField b (left - 1) ≡ filled n → listAmong b n left ≡ rowList b (left - 1)
-  unfolding listAmong
-  among-here e = ap (listAmong b n) (sym last-is) ∙ simp (same-yes (nameField b (left - 1)) (filled n) e)
-
-  -- It has another: the name's list is among the rows before it.
-  pub among-on : (nameField b (left - 1) ≡ filled n → ⊥) → listAmong b n left ≡ listAmong b n (left - 1)
-  unfolding listAmong
-  among-on d = ap (listAmong b n) (sym last-is) ∙ simp (same-no (nameField b (left - 1)) (filled n) d)
-
--- Among no rows a name has no records.
-pub among-none : (b n : List ℕ) (left : ℕ) → left ≤ 0 → listAmong b n left ≡ record { offset = 0; count = 0 }
-unfolding listAmong
-among-none b n left l = let e : left ≡ 0 = omega arith in ap (listAmong b n) e
+-- No row from `left` on has the name, and the last row before these does not have it either.
+pub none-before : (b n : List ℕ) (left : ℕ) → ((r : ℕ) → left ≤ r → Has b n r → ⊥) → (nameField b (left - 1) ≡ filled n → ⊥) → (r : ℕ) → left - 1 ≤ r → Has b n r → ⊥
+none-before b n left behind d r l has =
+    ⊎-elim (λ k. behind r k has) (λ k. let e : r ≡ left - 1 = omega arith in d (subst (λ (q : ℕ). nameField b q ≡ filled n) e (has .1))) (or-not (le-decides left r))
 
 -- The list of a name among some rows of an index in which every list lies within it does, too.
 among-within : (b n : List ℕ) → Placed b → (m : ℕ) → m ≤ tags b → InIndex b (listAmong b n m)

@@ -1,5 +1,6 @@
 -- The plan of a tree over a lawful index: it fits, and agrees with the question of the tree.
 use Prim.Native.Nat.{ℕ, _+_, _≤_, _<_}
+use native.Mathlib.Nat.{eq-or-lt-of-le, le-of-suc-le-suc}
 use native.Mathlib.Omega.{arith}
 use mathlib.Core.Path.{_≡_, refl, sym, ap, subst, _∙_}
 use mathlib.Core.Logic.{_⊎_, inl, inr, _≢_, ⊎-elim}
@@ -11,26 +12,31 @@ use Rattle.meaning.specs.declared.Body.{Body}
 use Rattle.meaning.specs.declared.Question.{Question}
 use Rattle.meaning.specs.Limits.{mostSteps}
 use Rattle.meaning.specs.Labels.{Inside, Apart}
-use Rattle.meaning.specs.Day.{offset, count, labelAt, listOf}
+use Rattle.meaning.specs.declared.Found.{Found}
+use Rattle.meaning.specs.declared.Found.the-variants.{Known, Unknown}
+use Rattle.meaning.specs.Day.{offset, count, labelAt, Finds, listOf}
 use Rattle.meaning.specs.Notation.{Path, Hook, nothing, from, steps, returnedStep}
 use Rattle.meaning.specs.Bytes.{at}
 use Rattle.meaning.specs.Picks.{Asked, asked, stepAt}
+use Rattle.meaning.specs.Pages.{noStep, First, nowhere, NoRow, FirstUnknown}
 use Rattle.meaning.specs.Refusals.{Lawful}
 use Rattle.meaning.proofs.Decide.{or-not, lt-decides}
 use Rattle.meaning.specs.Fit.{Fit}
 use Rattle.meaning.proofs.Laws.Bytes.{zero-at}
 use Rattle.meaning.proofs.Laws.Day.{lawful-fit, list-small}
 use Rattle.meaning.proofs.Laws.Notation.{one-tree}
+use Rattle.meaning.proofs.Laws.Found.{known-list, unknown-list, first-one}
 use Rattle.meaning.proofs.Laws.Step.{hook-upward}
 use Rattle.meaning.proofs.Laws.Few.{lawful-small}
 use Rattle.contents.proofs.FindLaws.{list-within}
 use Rattle.question.specs.Questions.{hookNumber, kept}
 use Rattle.question.proofs.StoredSteps.{StoredAs, stored-step}
 use Rattle.cursors.specs.Plan.{hookOf, planOf, Planned}
-use Rattle.plan.specs.Drawn.{Column, Drawn, Asks, Draws}
+use Rattle.plan.specs.Drawn.{Column, Drawn, FirstOf, Asks, Draws}
 use Rattle.cursors.proofs.SettleTurns.{hook-from, hook-nothing}
 use Rattle.cursors.proofs.Moves.{set-cases}
 use Rattle.plan.proofs.Agreeing.{Agree}
+use Rattle.plan.proofs.Telling.{first-on, first-here}
 
 -- A hook is found again from its number, if a step's number is below 255.
 hook-again : (h : Hook) → ((u : ℕ) → h ≡ from u → u < 255) → hookOf (hookNumber h) ≡ h
@@ -100,6 +106,14 @@ column-on f s x xs w m e = record {
     before : (j : ℕ) → j ≢ s → j < s + 1 → j < s
     before j n k = omega arith
 
+-- A number that is 0 stands there already.
+column-skip : (f : ℕ → ℕ) (s : ℕ) (xs : List ℕ) → Column s f xs → f s ≡ 0 → Column (s + 1) f xs
+column-skip f s xs w e = record {
+  long = w .long;
+  are = λ j l. ⊎-elim (λ i. rw i (w .blank s (omega arith) ∙ sym e)) (λ k. w .are j k) (eq-or-lt-of-le (le-of-suc-le-suc (omega arith)));
+  blank = λ j k. w .blank j (omega arith);
+}
+
 -- Such an array is one.
 column-one : (k : ℕ) (f : ℕ → ℕ) (xs ys : List ℕ) → Column k f xs → Column k f ys → xs ≡ ys
 column-one k f xs ys x y = ext-getD 0 xs ys (x .long ∙ sym (y .long)) (λ i l. go i (or-not (lt-decides i k)))
@@ -108,49 +122,78 @@ column-one k f xs ys x y = ext-getD 0 xs ys (x .long ∙ sym (y .long)) (λ i l.
     go i (inl l) = x .are i l ∙ sym (y .are i l)
     go i (inr n) = x .blank i (omega arith) ∙ sym (y .blank i (omega arith))
 
--- The loop of `draw`: the first s steps are in the arrays, and blank entries stand behind them.
-pub record Drawing (b : List ℕ) (p : Path) (s : ℕ) (hangs offsets counts : List ℕ) : Type 0 where
+-- The loop of `draw`: the first s steps are in the arrays, blank entries stand behind them, and the first unknown of these steps is told.
+pub record Drawing (b : List ℕ) (p : Path) (s : ℕ) (hangs offsets counts : List ℕ) (unknown : ℕ) : Type 0 where
   pub s-le : s ≤ steps p
   pub hangs-are : Column s (λ j. hookNumber (stepAt p j .hook)) hangs
   pub offsets-are : Column s (λ j. listOf b (stepAt p j .name) .offset) offsets
   pub counts-are : Column s (λ j. listOf b (stepAt p j .name) .count) counts
+  pub told : First (NoRow b p) s unknown
 
-pub draw-begin : (b : List ℕ) (p : Path) (hangs offsets counts : List ℕ) → hangs ≡ replicate 32 0 → offsets ≡ replicate 32 0 → counts ≡ replicate 32 0 → Drawing b p 0 hangs offsets counts
-draw-begin b p hangs offsets counts h o c = record {
+pub draw-begin : (b : List ℕ) (p : Path) (hangs offsets counts : List ℕ) (unknown : ℕ) → hangs ≡ replicate 32 0 → offsets ≡ replicate 32 0 → counts ≡ replicate 32 0 → unknown ≡ noStep → Drawing b p 0 hangs offsets counts unknown
+draw-begin b p hangs offsets counts unknown h o c u = record {
   s-le = omega arith;
   hangs-are = column-begin _ hangs h;
   offsets-are = column-begin _ offsets o;
   counts-are = column-begin _ counts c;
+  told = subst (First (NoRow b p) 0) (sym u) (nowhere (λ j l. absurd (omega arith)));
 }
 
--- One step more.
-pub draw-on : (b : List ℕ) (p : Path) (s : ℕ) (hangs offsets counts : List ℕ) (hook : ℕ) (body : Body) → Drawing b p s hangs offsets counts → s < steps p → s < 32
-    → hook ≡ hookNumber (stepAt p s .hook) → body ≡ listOf b (stepAt p s .name) → Drawing b p (s + 1) (set hangs s hook) (set offsets s (body .offset)) (set counts s (body .count))
-draw-on b p s hangs offsets counts hook body w l m h e = record {
-  s-le = omega arith;
-  hangs-are = column-on _ s hook hangs (w .hangs-are) m h;
-  offsets-are = column-on _ s (body .offset) offsets (w .offsets-are) m (ap (λ (z : Body). z .offset) e);
-  counts-are = column-on _ s (body .count) counts (w .counts-are) m (ap (λ (z : Body). z .count) e);
-}
+module _ (b : List ℕ) (p : Path) (s : ℕ) (hangs offsets counts : List ℕ) (unknown hook : ℕ) (w : Drawing b p s hangs offsets counts unknown) (l : s < steps p) (m : s < 32)
+    (h : hook ≡ hookNumber (stepAt p s .hook)) where
+  -- One step more, whose name is known.
+  pub draw-known : (list : Body) → Lawful b → Finds b (stepAt p s .name) (Known list) → Drawing b p (s + 1) (set hangs s hook) (set offsets s (list .offset)) (set counts s (list .count)) unknown
+  draw-known list law found =
+      let e : list ≡ listOf b (stepAt p s .name) = known-list b law (stepAt p s .name) list found in
+      record {
+        s-le = omega arith;
+        hangs-are = column-on _ s hook hangs (w .hangs-are) m h;
+        offsets-are = column-on _ s (list .offset) offsets (w .offsets-are) m (ap (λ (z : Body). z .offset) e);
+        counts-are = column-on _ s (list .count) counts (w .counts-are) m (ap (λ (z : Body). z .count) e);
+        told = first-on (w .told) (λ no-row. no-row (found .0) (found .1));
+      }
+
+  -- One step more, whose name is unknown.
+  pub draw-unknown : (first : ℕ) → Finds b (stepAt p s .name) Unknown → FirstOf unknown s first → Drawing b p (s + 1) (set hangs s hook) offsets counts first
+  draw-unknown first no-row e =
+      let none = unknown-list b (stepAt p s .name) no-row in
+      record {
+        s-le = omega arith;
+        hangs-are = column-on _ s hook hangs (w .hangs-are) m h;
+        offsets-are = column-skip _ s offsets (w .offsets-are) (ap (λ (z : Body). z .offset) none);
+        counts-are = column-skip _ s counts (w .counts-are) (ap (λ (z : Body). z .count) none);
+        told = first-here (omega arith) (w .told) no-row e;
+      }
 
 -- All steps are in the arrays.
-pub draw-end : (b : List ℕ) (p : Path) (s k ret : ℕ) (hangs offsets counts : List ℕ) → Drawing b p s hangs offsets counts → k ≡ steps p → k ≤ s → ret ≡ returnedStep p → Drawn b p k ret hangs offsets counts
-draw-end b p s k ret hangs offsets counts w e l r =
-    let all : s ≡ steps p = omega (arith, w .s-le) in
-    record {
-      k-is = e;
-      ret-is = r;
-      hangs-are = subst (λ (n : ℕ). Column n (λ j. hookNumber (stepAt p j .hook)) hangs) all (w .hangs-are);
-      offsets-are = subst (λ (n : ℕ). Column n (λ j. listOf b (stepAt p j .name) .offset) offsets) all (w .offsets-are);
-      counts-are = subst (λ (n : ℕ). Column n (λ j. listOf b (stepAt p j .name) .count) counts) all (w .counts-are);
-    }
+pub draw-end : (b : List ℕ) (p : Path) (s k ret : ℕ) (hangs offsets counts : List ℕ) (unknown : ℕ) → Drawing b p s hangs offsets counts unknown → k ≡ steps p → k ≤ s → ret ≡ returnedStep p
+    → Drawn b p k ret hangs offsets counts × FirstUnknown b p unknown
+draw-end b p s k ret hangs offsets counts unknown w e l r =
+    let all : s ≡ steps p = omega (arith, w .s-le) in (
+      record {
+        k-is = e;
+        ret-is = r;
+        hangs-are = subst (λ (n : ℕ). Column n (λ j. hookNumber (stepAt p j .hook)) hangs) all (w .hangs-are);
+        offsets-are = subst (λ (n : ℕ). Column n (λ j. listOf b (stepAt p j .name) .offset) offsets) all (w .offsets-are);
+        counts-are = subst (λ (n : ℕ). Column n (λ j. listOf b (stepAt p j .name) .count) counts) all (w .counts-are);
+      },
+      subst (λ (n : ℕ). First (NoRow b p) n unknown) all (w .told),
+    )
 
 -- What `draw` promises fixes all that it gives.
-pub draws-fixed : {b text : List ℕ} {k ret k′ ret′ : ℕ} {h o c h′ o′ c′ : List ℕ} → Draws b text k ret h o c → Draws b text k′ ret′ h′ o′ c′ → (h ≡ h′) × (o ≡ o′) × (c ≡ c′)
-draws-fixed {b} {k = k} {ret = ret} {h = h} {o = o} {c = c} x y =
-    let d : Drawn b (y .writes .tree) k ret h o c = subst (λ (t : Path). Drawn b t k ret h o c) (one-tree (x .writes) (y .writes)) (x .drawn) in
-    (column-one _ _ _ _ (d .hangs-are) (y .drawn .hangs-are), column-one _ _ _ _ (d .offsets-are) (y .drawn .offsets-are), column-one _ _ _ _ (d .counts-are) (y .drawn .counts-are))
+pub draws-fixed : {b text : List ℕ} {k ret k′ ret′ u u′ : ℕ} {h o c h′ o′ c′ : List ℕ} → Draws b text k ret h o c u → Draws b text k′ ret′ h′ o′ c′ u′ → (h ≡ h′) × (o ≡ o′) × (c ≡ c′) × (u ≡ u′)
+draws-fixed {b} {k = k} {ret = ret} {u = u} {h = h} {o = o} {c = c} x y =
+    let d : Drawn b (y .writes .tree) k ret h o c = subst (λ (t : Path). Drawn b t k ret h o c) (one-tree (x .writes) (y .writes)) (x .drawn) in (
+      column-one _ _ _ _ (d .hangs-are) (y .drawn .hangs-are),
+      column-one _ _ _ _ (d .offsets-are) (y .drawn .offsets-are),
+      column-one _ _ _ _ (d .counts-are) (y .drawn .counts-are),
+      first-one (subst (λ (t : Path). FirstUnknown b t u) (one-tree (x .writes) (y .writes)) (x .told)) (y .told),
+    )
 
 -- A step of a question that was read: where its name stands, that it is the tree's, and what it hangs from.
 pub asked-step : (text : List ℕ) (q : Question) (a : Asks text q) (s : ℕ) → s < steps (a .writes .tree) → StoredAs text (kept q s) (stepAt (a .writes .tree) s)
 asked-step text q a s l = subst (λ (x : Question). StoredAs text (kept x s) (stepAt (a .writes .tree) s)) (sym (a .is)) (stored-step (a .writes) s l)
+
+-- What was found of a name, where the name and what was found are told in other words.
+pub found-as : (b : List ℕ) {m n : List ℕ} {f g : Found} → m ≡ n → f ≡ g → Finds b m f → Finds b n g
+found-as b {n = n} {f = f} d e h = subst (Finds b n) e (subst (λ (k : List ℕ). Finds b k f) d h)

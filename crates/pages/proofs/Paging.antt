@@ -140,18 +140,18 @@ module _ (a : Asked) (fit : Fit a) (Row : ℕ → List ℕ → Type 0) (place ro
       seam (k ∷ ks) ls d = seam ks ls d
 
   -- No record is left.
-  pub page-done : NoPick a (at xs) → Paged a Row place room entry out (record { refusal = 0; rows = n; more = false; next = a .count (a .returned) })
-  page-done no-pick =
-      ending [] (done-of a fit xs (w .floor) no-pick) (record { refusal = 0; rows = n; more = false; next = a .count (a .returned) }) refl refl (omega (arith, w .n-le)) (sym (le-ltb n (n + 0) (omega arith))) refl
+  pub page-done : NoPick a (at xs) → (unknown : ℕ) → Paged a Row place room entry out (record { refusal = 0; rows = n; more = false; next = a .count (a .returned); unknown = unknown })
+  page-done no-pick unknown =
+      ending [] (done-of a fit xs (w .floor) no-pick) (record { refusal = 0; rows = n; more = false; next = a .count (a .returned); unknown = unknown }) refl refl (omega (arith, w .n-le)) (sym (le-ltb n (n + 0) (omega arith))) refl
 
   module _ (ys : List ℕ) (least : LeastPick a (at xs) (at ys)) where
     -- A record is left, and the page is full.
-    pub page-full : n ≡ room → Paged a Row place room entry out (record { refusal = 0; rows = n; more = true; next = at ys (a .returned) })
-    page-full e =
+    pub page-full : n ≡ room → (unknown : ℕ) → Paged a Row place room entry out (record { refusal = 0; rows = n; more = true; next = at ys (a .returned); unknown = unknown })
+    page-full e unknown =
         let i : ℕ = at ys (a .returned) in
         let js : List ℕ = recordsOf a (i + 1) in
         let rec : Records a (at xs (a .returned)) (i ∷ js) = records-next a (at xs (a .returned)) i js (next-of a fit xs (w .floor) ys least) (records-of a fit (i + 1)) in
-        ending (i ∷ js) rec (record { refusal = 0; rows = n; more = true; next = i }) refl refl (omega (arith, e)) (sym (lt-ltb n (n + suc (length js)) (omega arith))) refl
+        ending (i ∷ js) rec (record { refusal = 0; rows = n; more = true; next = i; unknown = unknown }) refl refl (omega (arith, e)) (sym (lt-ltb n (n + suc (length js)) (omega arith))) refl
 
     -- A row v is written behind the others. The cursors are settled again from the returned step on, or from a step before it.
     pub page-row : n < room → length ys ≡ 32 → a .steps ≤ 32 → (out′ v : List ℕ) → Row (at ys (a .returned)) v → length out′ ≡ length out

@@ -35,7 +35,7 @@ fn put_row(out: &mut [u32], to: usize, pos: &[usize; Step::MOST], step: usize, w
     }
 }
 
-// A page from `place` on: for each record the positions of `width` steps, from `step` on.
+// A page from `place` on: for each record the positions of `width` steps, from `step` on. It tells the unknown step that it is given.
 pub fn write_page(
     index: &[u8],
     k: usize,
@@ -46,10 +46,11 @@ pub fn write_page(
     place: usize,
     step: usize,
     width: usize,
+    unknown: u32,
     out: &mut [u32],
 ) -> Page
     requires { ⌜ Planned (now index) k ret (now hangs) (now offsets) (now counts) × (step + width ≤ k) × (1 ≤ width) ⌝ }
-    ensures { λ r. ⌜ Paged (planOf (now (index .entry)) k ret (now (hangs .entry)) (now (offsets .entry)) (now (counts .entry))) (PartOf (planOf (now (index .entry)) k ret (now (hangs .entry)) (now (offsets .entry)) (now (counts .entry))) step width) place (length (now (out .entry)) / width) (now (out .entry)) (now (out .exit)) r ⌝ }
+    ensures { λ r. ⌜ Paged (planOf (now (index .entry)) k ret (now (hangs .entry)) (now (offsets .entry)) (now (counts .entry))) (PartOf (planOf (now (index .entry)) k ret (now (hangs .entry)) (now (offsets .entry)) (now (counts .entry))) step width) place (length (now (out .entry)) / width) (now (out .entry)) (now (out .exit)) r × (r .unknown ≡ unknown) ⌝ }
 {
     let room = out.len() / width;
     let mut pos = start_from(ret, place);
@@ -63,6 +64,7 @@ pub fn write_page(
                 rows,
                 more: false,
                 next: counts[ret] as u32,
+                unknown,
             };
         }
         let here = pos[ret];
@@ -72,6 +74,7 @@ pub fn write_page(
                 rows,
                 more: true,
                 next: here as u32,
+                unknown,
             };
         }
         put_row(out, to, &pos, step, width);

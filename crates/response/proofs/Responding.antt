@@ -7,10 +7,11 @@ use mathlib.Core.Bool.{Bool, true, false}
 use mathlib.Core.List.{List}
 use lib.ListN.{length}
 use Rattle.meaning.specs.declared.Page.{Page}
-use Rattle.meaning.specs.Pages.{Paged}
+use Rattle.meaning.specs.Pages.{Paged, noStep, FirstUnknown}
 use Rattle.meaning.specs.Refusals.{Given, Clear, clear, given, Lawful, checkTable, questionTable, callTable}
 use Rattle.meaning.specs.Promises.{Checked, refused, page}
 use Rattle.meaning.proofs.Laws.Table.{given-above, question-rising, given-first, given-after, clear-both}
+use Rattle.meaning.proofs.Laws.Page.{refusal-is}
 use Rattle.meaning.proofs.Laws.Few.{few-steps}
 use Rattle.question.specs.declared.Reading.{Reading}
 use Rattle.question.specs.Promise.{ReadAs}
@@ -23,12 +24,12 @@ use Rattle.response.proofs.Ending.{answer-page, evidence-page}
 
 -- The result of a refusal.
 abbrev pub refusal : ℕ → Page
-refusal n = record { refusal = n; rows = 0; more = false; next = 0 }
+refusal n = record { refusal = n; rows = 0; more = false; next = 0; unknown = noStep }
 
 -- A call refuses with the number that its table gives, and changes nothing.
 refuses : (whole : Bool) (b text : List ℕ) (place : ℕ) (entry : List ℕ) (n : ℕ) → Given (callTable b text) n → Responds whole b text place entry entry (refusal n)
-refuses true b text place entry n g = refused g (record { buffer = refl; refusal = refl; rows = refl; more = refl; next = refl })
-refuses false b text place entry n g = refused g (record { buffer = refl; refusal = refl; rows = refl; more = refl; next = refl })
+refuses true b text place entry n g = refused g (refusal-is n entry)
+refuses false b text place entry n g = refused g (refusal-is n entry)
 
 -- The index is refused.
 pub refuse-index : (whole : Bool) (b text : List ℕ) (place : ℕ) (entry : List ℕ) (n : ℕ) (r : Page) → Checked b n → n ≢ 0 → r ≡ refusal n → Responds whole b text place entry entry r
@@ -53,14 +54,18 @@ pub heard : (text : List ℕ) (q : Reading) → ReadAs text q → q .refusal ≡
 heard text q (reading.refused {n} g e) zero = absurd (omega (arith, given-above (questionTable text) 0 (question-rising text) n g, ap (λ (x : Reading). x .refusal) e))
 heard text q (reading.read c f e) zero = record { clear = c; asks = record { writes = f; few = few-steps c f; is = ap (λ (x : Reading). x .question) e } }
 
-module _ (b text : List ℕ) (law : Lawful b) (c : Clear (questionTable text)) (k ret : ℕ) (hangs offsets counts : List ℕ) (d : Draws b text k ret hangs offsets counts)
+module _ (b text : List ℕ) (law : Lawful b) (c : Clear (questionTable text)) (k ret : ℕ) (hangs offsets counts : List ℕ) (unknown : ℕ) (d : Draws b text k ret hangs offsets counts unknown)
     (place : ℕ) (entry exit : List ℕ) (r : Page) where
   nothing-refused : Clear (callTable b text)
   nothing-refused = clear-both (checkTable b) (questionTable text) law c
 
-  -- The engine's page of whole rows is what the evidence call promises, and of the returned step alone what the answer call promises.
-  pub give-evidence : (whole : Bool) → whole ≡ true → Paged (planOf b k ret hangs offsets counts) (PartOf (planOf b k ret hangs offsets counts) 0 k) place (length entry / k) entry exit r → Responds whole b text place entry exit r
-  give-evidence whole e x = subst (λ (w : Bool). Responds w b text place entry exit r) (sym e) (page nothing-refused (d .writes) (evidence-page b (d .writes .tree) k ret hangs offsets counts law (d .few) (d .drawn) place entry exit r x))
+  -- The step that the plan found unknown is told.
+  is-told : r .unknown ≡ unknown → FirstUnknown b (d .writes .tree) (r .unknown)
+  is-told e = subst (FirstUnknown b (d .writes .tree)) (sym e) (d .told)
 
-  pub give-answer : (whole : Bool) → whole ≡ false → Paged (planOf b k ret hangs offsets counts) (PartOf (planOf b k ret hangs offsets counts) ret 1) place (length entry / 1) entry exit r → Responds whole b text place entry exit r
-  give-answer whole e x = subst (λ (w : Bool). Responds w b text place entry exit r) (sym e) (page nothing-refused (d .writes) (answer-page b (d .writes .tree) k ret hangs offsets counts law (d .few) (d .drawn) place entry exit r x))
+  -- The engine's page of whole rows is what the evidence call promises, and of the returned step alone what the answer call promises.
+  pub give-evidence : (whole : Bool) → whole ≡ true → Paged (planOf b k ret hangs offsets counts) (PartOf (planOf b k ret hangs offsets counts) 0 k) place (length entry / k) entry exit r × (r .unknown ≡ unknown) → Responds whole b text place entry exit r
+  give-evidence whole e (x, u) = subst (λ (w : Bool). Responds w b text place entry exit r) (sym e) (page nothing-refused (d .writes) (evidence-page b (d .writes .tree) k ret hangs offsets counts law (d .few) (d .drawn) place entry exit r x) (is-told u))
+
+  pub give-answer : (whole : Bool) → whole ≡ false → Paged (planOf b k ret hangs offsets counts) (PartOf (planOf b k ret hangs offsets counts) ret 1) place (length entry / 1) entry exit r × (r .unknown ≡ unknown) → Responds whole b text place entry exit r
+  give-answer whole e (x, u) = subst (λ (w : Bool). Responds w b text place entry exit r) (sym e) (page nothing-refused (d .writes) (answer-page b (d .writes .tree) k ret hangs offsets counts law (d .few) (d .drawn) place entry exit r x) (is-told u))

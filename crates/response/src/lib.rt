@@ -1,6 +1,7 @@
 // What the answer call and the evidence call do.
 ghost use mathlib.Core.Path.{_≡_};
 ghost use mathlib.Core.Bool.{false};
+ghost use Rattle.meaning.specs.Pages.{noStep};
 ghost use Rattle.response.specs.Response.{Responds};
 use meaning::Page;
 use pages::write_page;
@@ -8,17 +9,18 @@ use plan::draw;
 
 // A refusal.
 fn refused(number: u32) -> Page
-    ensures { λ r. ⌜ r ≡ record { refusal = number; rows = 0; more = false; next = 0 } ⌝ }
+    ensures { λ r. ⌜ r ≡ record { refusal = number; rows = 0; more = false; next = 0; unknown = noStep } ⌝ }
 {
     Page {
         refusal: number,
         rows: 0,
         more: false,
         next: 0,
+        unknown: Page::NO_STEP,
     }
 }
 
-// What both calls do: check the index, read the question, find each step's list, and write a page; `whole` says whether a row has the
+// What both calls do: check the index, read the question, find each step's list or that its name has none, and write a page; `whole` says whether a row has the
 // positions of all steps or that of the returned step alone.
 pub fn respond(index: &[u8], text: &[u8], place: u32, out: &mut [u32], whole: bool) -> Page
     ensures { λ r. ⌜ Responds whole (now (index .entry)) (now (text .entry)) place (now (out .entry)) (now (out .exit)) r ⌝ }
@@ -36,6 +38,7 @@ pub fn respond(index: &[u8], text: &[u8], place: u32, out: &mut [u32], whole: bo
     let hangs = plan.hangs;
     let offsets = plan.offsets;
     let counts = plan.counts;
+    let unknown = plan.unknown;
     let k = asked.count;
     let ret = asked.returned;
     if whole {
@@ -49,6 +52,7 @@ pub fn respond(index: &[u8], text: &[u8], place: u32, out: &mut [u32], whole: bo
             place as usize,
             0,
             k,
+            unknown,
             out,
         );
     }
@@ -62,6 +66,7 @@ pub fn respond(index: &[u8], text: &[u8], place: u32, out: &mut [u32], whole: bo
         place as usize,
         ret,
         1,
+        unknown,
         out,
     )
 }

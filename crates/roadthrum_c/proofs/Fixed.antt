@@ -1,4 +1,4 @@
--- What a call from C gives is fixed: two outcomes that satisfy its promise are equal in the four numbers and in the whole buffer.
+-- What a call from C gives is fixed: two outcomes that satisfy its promise are equal in the five numbers and in the whole buffer.
 use Prim.Native.Nat.{ℕ}
 use mathlib.Core.Path.{_≡_, sym, ap, _∙_}
 use mathlib.Core.List.{List}

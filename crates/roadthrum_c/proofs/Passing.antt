@@ -1,4 +1,4 @@
--- A call's outcome is passed on as four numbers: one law for the answer call and the evidence call, whatever a row is and however much
+-- A call's outcome is passed on as five numbers: one law for the answer call and the evidence call, whatever a row is and however much
 -- room there is for rows.
 use Prim.Native.Nat.{ℕ, _≤_}
 use mathlib.Core.Path.{_≡_}

@@ -6,12 +6,18 @@ ghost use Rattle.meaning.specs.Promises.{Checked, Answered, Shown};
 ghost use Rattle.roadthrum_c.specs.Boundary.{numbers as Boundary·numbers, PassedOn};
 use meaning::Page;
 
-// The page as four numbers.
-fn numbers(page: Page) -> [u32; 4]
+// The page as five numbers.
+fn numbers(page: Page) -> [u32; 5]
     requires { ⌜ page .rows ≤ mostLabels ⌝ }
     ensures { λ r. ⌜ r ≡ Boundary·numbers page ⌝ }
 {
-    [page.refusal, page.rows as u32, page.more as u32, page.next]
+    [
+        page.refusal,
+        page.rows as u32,
+        page.more as u32,
+        page.next,
+        page.unknown,
+    ]
 }
 
 // The check call.
@@ -29,7 +35,7 @@ pub extern "C" fn roadthrum_answer(
     question: &[u8],
     place: u32,
     rows: &mut [u32],
-    result: &mut [u32; 4],
+    result: &mut [u32; 5],
 )
     ensures { λ _. ⌜ PassedOn (Answered (now (index .entry)) (now (question .entry)) place (now (rows .entry)) (now (rows .exit))) (now (result .exit)) ⌝ }
 {
@@ -43,7 +49,7 @@ pub extern "C" fn roadthrum_evidence(
     question: &[u8],
     place: u32,
     rows: &mut [u32],
-    result: &mut [u32; 4],
+    result: &mut [u32; 5],
 )
     ensures { λ _. ⌜ PassedOn (Shown (now (index .entry)) (now (question .entry)) place (now (rows .entry)) (now (rows .exit))) (now (result .exit)) ⌝ }
 {

@@ -30,7 +30,8 @@ fn product(a: usize, b: usize) -> usize {
     a * b
 }
 
-// Writes a question with its positions, its evidence rows one after the other, whether more remain, and the next place.
+// Writes a question with its positions, its evidence rows one after the other, whether more remain, the next place, and the step whose name is
+// unknown.
 fn ask(index: &[u8], text: &[u8], steps: usize, place: u32) {
     io::write_all(1, text);
     io::write_all(1, b":");
@@ -51,6 +52,10 @@ fn ask(index: &[u8], text: &[u8], steps: usize, place: u32) {
     }
     io::write_all(1, b" next ");
     io::print_decimal(1, page.next as u64);
+    if page.unknown != meaning::Page::NO_STEP {
+        io::write_all(1, b" unknown ");
+        io::print_decimal(1, page.unknown as u64);
+    }
     io::write_all(1, b"\n");
 }
 
@@ -117,6 +122,8 @@ fn questions_to(day: &[u8]) {
     ask(day, b"//call[//cancel][//cancel]", 3, 0);
     ask(day, b"//call[//call[//cancel]]//board", 4, 0);
     ask(day, b"//lobby", 1, 0);
+    // a name in a bracket that no row has
+    ask(day, b"//call[//cancle]", 2, 0);
     // from place 9 on there is none, and the next place is the number of calls
     ask(day, b"//call[//board]", 2, 9);
     // a place of 4,294,967,295

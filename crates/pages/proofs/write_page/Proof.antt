@@ -20,11 +20,11 @@ use Rattle.pages.proofs.write_page.Statement.{statement}
 use Rattle.pages.proofs.write_page.Tie as tie
 
 abbrev Inv-loop : tie.InvT-loop
-Inv-loop index k ret hangs offsets counts place step width out₀ room pos₀ first₀ rows₀ to₀ out pos first rows to =
+Inv-loop index k ret hangs offsets counts place step width unknown out₀ room pos₀ first₀ rows₀ to₀ out pos first rows to =
     (room ≡ length out₀ / width) × Writing (planOf index k ret hangs offsets counts) (PartOf (planOf index k ret hangs offsets counts) step width) place room width out₀ out pos rows to first
 
 abbrev μ-loop : tie.MeasureT-loop
-μ-loop index k ret hangs offsets counts place step width out₀ room pos₀ first₀ rows₀ to₀ out pos first rows to =
+μ-loop index k ret hangs offsets counts place step width unknown out₀ room pos₀ first₀ rows₀ to₀ out pos first rows to =
     room - rows
 
 -- Where the loop is, from where a settling found a pick, and where the function began.
@@ -89,21 +89,21 @@ loop-holds c =
 settle-requires : tie.Need-settle-requires Inv-loop μ-loop
 settle-requires c κs = let l = c .before in (start l .pre .0, steps-of _ _ _ _ _ _ (l .loop .inv .1 .first-le), l .loop .inv .1 .len, l .loop .inv .1 .held)
 
-mul-t22 : tie.Need-mul-t22 Inv-loop μ-loop
-mul-t22 c = let s = start (c .before .before .before) in record { fits = omega (arith, ret-32 (c .before .before .before), s .pre .0 .few, s .pre .1, s .pre .2) }
+mul-t23 : tie.Need-mul-t23 Inv-loop μ-loop
+mul-t23 c = let s = start (c .before .before .before) in record { fits = omega (arith, ret-32 (c .before .before .before), s .pre .0 .few, s .pre .1, s .pre .2) }
 
-element-copy-out-t25 : tie.Need-element-copy-out-t25 Inv-loop μ-loop
-element-copy-out-t25 c = let s = start (c .before .before .before) in omega (arith, ret-32 (c .before .before .before), s .pre .0 .few, s .pre .1, s .pre .2)
+element-copy-out-t26 : tie.Need-element-copy-out-t26 Inv-loop μ-loop
+element-copy-out-t26 c = let s = start (c .before .before .before) in omega (arith, ret-32 (c .before .before .before), s .pre .0 .few, s .pre .1, s .pre .2)
 
-cast-t26 : tie.Need-cast-t26 Inv-loop μ-loop
-cast-t26 c = let l = c .before .before .before .before in let s = start l in record { fits = omega (arith, s .pre .0 .small (s .args .ret) (ret-lt l), s .pre .0 .small (s .args .step) (omega (arith, s .pre .1, s .pre .2))) }
+cast-t27 : tie.Need-cast-t27 Inv-loop μ-loop
+cast-t27 c = let l = c .before .before .before .before in let s = start l in record { fits = omega (arith, s .pre .0 .small (s .args .ret) (ret-lt l), s .pre .0 .small (s .args .step) (omega (arith, s .pre .1, s .pre .2))) }
 
 same-length : tie.Need-same-length Inv-loop μ-loop
 same-length c = c .before .before .before .before .loop .inv .1 .same
 
 returns : tie.Need-returns Inv-loop μ-loop
 unfolding planOf
-returns c = let l = c .before .before .before .before in page-done (plan l) (start l .pre .0 .fit) _ _ _ _ _ _ _ _ _ _ (l .loop .inv .1) (fits l) (settled-none (c .before .before .settle .ensures .0) (not-true _ (c .before .if1 .taken)))
+returns c = let l = c .before .before .before .before in (page-done (plan l) (start l .pre .0 .fit) _ _ _ _ _ _ _ _ _ _ (l .loop .inv .1) (fits l) (settled-none (c .before .before .settle .ensures .0) (not-true _ (c .before .if1 .taken))) _, refl)
 
 mul-here : tie.Need-mul-here Inv-loop μ-loop
 mul-here c = record { fits = omega (arith, ret-32 (at-loop c)) }
@@ -111,15 +111,15 @@ mul-here c = record { fits = omega (arith, ret-32 (at-loop c)) }
 array-read-here : tie.Need-array-read-here Inv-loop μ-loop
 array-read-here c = ret-32 (at-loop c)
 
-cast-t31 : tie.Need-cast-t31 Inv-loop μ-loop
-cast-t31 c = let e = c .before in let l = at-loop e in record { fits = omega (arith, small e (start l .args .ret) (ret-lt l) .1, ret-32 l) }
+cast-t32 : tie.Need-cast-t32 Inv-loop μ-loop
+cast-t32 c = let e = c .before in let l = at-loop e in record { fits = omega (arith, small e (start l .args .ret) (ret-lt l) .1, ret-32 l) }
 
 same-length-2 : tie.Need-same-length-2 Inv-loop μ-loop
 same-length-2 c = at-loop (c .before) .loop .inv .1 .same
 
 returns-2 : tie.Need-returns-2 Inv-loop μ-loop
 unfolding planOf
-returns-2 c = let e = c .before in let l = at-loop e in page-full (plan l) (start l .pre .0 .fit) _ _ _ _ _ _ _ _ _ _ (l .loop .inv .1) (fits l) (pos e) (least e) (omega (arith, c .if2 .taken))
+returns-2 c = let e = c .before in let l = at-loop e in (page-full (plan l) (start l .pre .0 .fit) _ _ _ _ _ _ _ _ _ _ (l .loop .inv .1) (fits l) (pos e) (least e) (omega (arith, c .if2 .taken)) _, refl)
 
 put-row-requires : tie.Need-put-row-requires Inv-loop μ-loop
 put-row-requires c κs = let d = c .before .before in let e = d .before in let s = start (at-loop e) in (omega (arith, s .pre .1, s .pre .0 .few), omega (arith, room d, s .pre .2), len e, λ j l. small e j (omega (arith, s .pre .1)) .1)
@@ -174,14 +174,14 @@ write-page-spec =
     start-from-requires
     loop-holds
     settle-requires
-    mul-t22
-    element-copy-out-t25
-    cast-t26
+    mul-t23
+    element-copy-out-t26
+    cast-t27
     same-length
     returns
     mul-here
     array-read-here
-    cast-t31
+    cast-t32
     same-length-2
     returns-2
     put-row-requires

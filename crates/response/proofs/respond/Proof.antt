@@ -66,7 +66,7 @@ same-length : tie.Need-same-length
 same-length c = search needs
 
 returns-3 : tie.Need-returns-3
-returns-3 c = let d = c .before .before .before .before .before .before .before .before .before .before .before in give-evidence _ _ (law (first (second d))) (was-heard (second d) .clear) _ _ _ _ _ (d .draw .ensures) _ _ _ _ (start (first (second d)) .args .whole) (c .before .before .before .before .before .before .before .if3 .taken) (c .before .before .write-page .ensures)
+returns-3 c = let d = c .before .before .before .before .before .before .before .before .before .before .before in give-evidence _ _ (law (first (second d))) (was-heard (second d) .clear) _ _ _ _ _ _ (d .draw .ensures) _ _ _ _ (start (first (second d)) .args .whole) (c .before .before .before .before .before .before .before .if3 .taken) (c .before .before .write-page .ensures)
 
 write-page-requires-2 : tie.Need-write-page-requires-2
 write-page-requires-2 c κs = let d = c .before .before .before .before .before .before .before .before in (planned d, omega (arith, ret-of _ _ _ _ _ _ (planned d)), omega arith)
@@ -75,7 +75,7 @@ same-length-2 : tie.Need-same-length-2
 same-length-2 c = search needs
 
 returns-4 : tie.Need-returns-4
-returns-4 c = let d = c .before .before .before .before .before .before .before .before .before .before .before in give-answer _ _ (law (first (second d))) (was-heard (second d) .clear) _ _ _ _ _ (d .draw .ensures) _ _ _ _ (start (first (second d)) .args .whole) (c .before .before .before .before .before .before .before .if3 .left) (c .before .before .write-page2 .ensures)
+returns-4 c = let d = c .before .before .before .before .before .before .before .before .before .before .before in give-answer _ _ (law (first (second d))) (was-heard (second d) .clear) _ _ _ _ _ _ (d .draw .ensures) _ _ _ _ (start (first (second d)) .args .whole) (c .before .before .before .before .before .before .before .if3 .left) (c .before .before .write-page2 .ensures)
 
 pub respond-spec : {M : Type 1} → statement M
 respond-spec =

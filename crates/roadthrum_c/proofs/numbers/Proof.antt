@@ -21,7 +21,7 @@ cast-t3 c = search needs
 returns : tie.Need-returns
 returns c =
     let page = c .before .before .args .page in
-    ap (λ (m : ℕ). page .refusal ∷ page .rows ∷ m ∷ page .next ∷ []) (as-number (page .more))
+    ap (λ (m : ℕ). page .refusal ∷ page .rows ∷ m ∷ page .next ∷ page .unknown ∷ []) (as-number (page .more))
 
 pub numbers-spec : {M : Type 1} → statement M
 numbers-spec = tie.close (tie.spec cast-t2 cast-t3 returns)

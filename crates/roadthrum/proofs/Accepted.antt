@@ -15,7 +15,7 @@ use Rattle.meaning.specs.Day.{listOf}
 use Rattle.meaning.specs.Notation.{Path, Follows, steps}
 use Rattle.meaning.specs.Bytes.{at}
 use Rattle.meaning.specs.Picks.{Asked, Evidence, asked, stepAt}
-use Rattle.meaning.specs.Pages.{Rows, none, row, Paged, evidenceRoom}
+use Rattle.meaning.specs.Pages.{Rows, none, row, Paged, noStep, First, here, nowhere, FirstUnknown, evidenceRoom}
 use Rattle.meaning.specs.Refusals.{Clear, Lawful, checkTable, questionTable, callTable}
 use Rattle.meaning.specs.Promises.{Shown, refused, page}
 use Rattle.meaning.proofs.Laws.Table.{given-above, call-rising, clear-first, clear-after, clear-not-given}
@@ -28,6 +28,7 @@ use Rattle.question.specs.declared.Reading.{Reading}
 use Rattle.question.specs.Promise.{ReadAs}
 use Rattle.question.specs.Promise as reading
 use Rattle.plan.specs.Drawn.{Asks, Drawn}
+use Rattle.roadthrum.specs.PageRows.{Tells}
 
 -- What an accepted call has found.
 pub record Accepted (b text : List ℕ) (place : ℕ) (entry rows : List ℕ) (r : Page) : Type 0 where
@@ -36,10 +37,11 @@ pub record Accepted (b text : List ℕ) (place : ℕ) (entry rows : List ℕ) (r
   pub follows : Follows text
   pub few : steps (follows .tree) ≤ mostSteps
   pub paged : Paged (asked b (follows .tree)) (Evidence (asked b (follows .tree))) place (evidenceRoom (asked b (follows .tree)) (length entry)) entry rows r
+  pub told : FirstUnknown b (follows .tree) (r .unknown)
 
 pub accepted : (b text : List ℕ) (place : ℕ) (entry rows : List ℕ) (r : Page) → Shown b text place entry rows r → r .refusal ≡ 0 → Accepted b text place entry rows r
 accepted b text place entry rows r (refused {n} g x) e = absurd (omega (arith, given-above (callTable b text) 0 (call-rising b text) n g, x .refusal, e))
-accepted b text place entry rows r (page c f p) e =
+accepted b text place entry rows r (page c f p u) e =
     let read = clear-after (checkTable b) (questionTable text) c in
     record {
       lawful = clear-first (checkTable b) (questionTable text) c;
@@ -47,6 +49,7 @@ accepted b text place entry rows r (page c f p) e =
       follows = f;
       few = few-steps read f;
       paged = p;
+      told = u;
     }
 
 -- Reading the question again gives it.
@@ -102,6 +105,14 @@ module _ (b text : List ℕ) (place : ℕ) (entry rows : List ℕ) (r : Page) (x
             let of-tree : at offsets s ≡ listOf b (name s) .offset = d .offsets-are .are s (omega (arith, d .k-is)) ∙ ap (λ (t : Path). listOf b (stepAt t s .name) .offset) (sym same) in
             omega (arith, of-tree, position j from s begins l (omega (arith, k-is)) .1, list-within b (name s) (x .lawful)),
       )
+
+  -- The step that the page tells is one of the question's.
+  pub tells : Tells text (r .unknown)
+  tells = record { read = x .read; follows = x .follows; step = below (x .told) }
+    where
+      below : {Such : ℕ → Type 0} {many n : ℕ} → First Such many n → (n ≡ noStep → ⊥) → n < many
+      below (here l such before) some = l
+      below (nowhere no-step) some = absurd (some refl)
 
   -- With room for the longest row, a page that leaves a record over names a later place.
   pub onward : mostSteps ≤ length entry → r .more ≡ true → place < r .next

@@ -6,6 +6,9 @@ use lib.ListN.{length}
 use Rattle.meaning.specs.Limits.{mostSteps}
 use Rattle.meaning.specs.Bytes.{at}
 use Rattle.meaning.specs.declared.Page.{Page}
+use Rattle.meaning.specs.Notation.{Follows, steps}
+use Rattle.meaning.specs.Pages.{noStep}
+use Rattle.meaning.specs.Refusals.{Clear, questionTable}
 use Rattle.meaning.specs.Promises.{Shown}
 
 -- The evidence call, from some place on and with some buffer lent, gave this page and left the buffer so.
@@ -14,6 +17,12 @@ pub record PageGiven (b text rows : List ℕ) (r : Page) : Type 0 where
   pub entry : List ℕ
   pub shown : Shown b text place entry rows r
   pub accepted : r .refusal ≡ 0
+
+-- The number is that of a step of the question that was read from the text, or 32.
+pub record Tells (text : List ℕ) (unknown : ℕ) : Type 0 where
+  pub read : Clear (questionTable text)
+  pub follows : Follows text
+  pub step : (unknown ≡ noStep → ⊥) → unknown < steps (follows .tree)
 
 -- A row of k list positions stands in `rows` from `from` on, and each is a label within the index, where `offsets` says where each step's
 -- body begins.

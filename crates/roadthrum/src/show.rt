@@ -1,6 +1,6 @@
 // What the program prints.
 ghost use lib.ListN.{length};
-ghost use Rattle.roadthrum.specs.PageRows.{RowAt, PageGiven};
+ghost use Rattle.roadthrum.specs.PageRows.{RowAt, PageGiven, Tells};
 use lines::Line;
 use lines::write_line;
 use meaning::Page;
@@ -8,6 +8,8 @@ use meaning::Step;
 use plan::draw;
 
 const OUT: i32 = libc::STDOUT_FILENO;
+
+const ERR: i32 = libc::STDERR_FILENO;
 
 // Numbers of a page: 64 rows of the longest question. Each page checks the index again, so that more rows on a page are fewer checks.
 const ROOM: usize = 64 * Step::MOST;
@@ -51,6 +53,23 @@ fn print_rows(index: &[u8], text: &[u8], rows: &[u32], page: Page)
     }
 }
 
+// Says on standard error, if a step's name has no row in the index, which step it is, counted from 1, and its name as it stands in the text.
+// Whoever misspelled it sees why there are no records.
+fn note_unknown(text: &[u8], unknown: u32)
+    requires { ⌜ Tells (now text) unknown ⌝ }
+{
+    if unknown == Page::NO_STEP {
+        return;
+    }
+    let question = question::read(text).question;
+    let step = question.steps[unknown as usize];
+    io::write_all(ERR, b"note: step ");
+    io::print_decimal(ERR, unknown as u64 + 1);
+    io::write_all(ERR, b": no record of this day is called \"");
+    io::write_all(ERR, question::name_of(text, step));
+    io::write_all(ERR, b"\"\n");
+}
+
 // Prints all evidence, page by page, and how many rows there were, or the refusal.
 pub fn show(index: &[u8], text: &[u8]) {
     let mut rows = [0u32; ROOM];
@@ -65,6 +84,7 @@ pub fn show(index: &[u8], text: &[u8]) {
         print_rows(index, text, &rows, page);
         total += page.rows as u64;
         if !page.more {
+            note_unknown(text, page.unknown);
             break;
         }
         place = page.next;

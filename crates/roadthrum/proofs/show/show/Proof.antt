@@ -7,7 +7,7 @@ use lib.ListN.{length}
 use Rattle.meaning.specs.Limits.{mostLabels}
 use Rattle.meaning.proofs.Laws.Few.{few-rows}
 use borrow.Author.Needs.{needs}
-use Rattle.roadthrum.proofs.Accepted.{accepted, onward}
+use Rattle.roadthrum.proofs.Accepted.{accepted, tells, onward}
 use Rattle.roadthrum.proofs.show.show.Statement.{statement}
 use Rattle.roadthrum.proofs.show.show.Tie as tie
 
@@ -40,6 +40,9 @@ print-rows-requires c κs = search needs
 
 add-total : tie.Need-add-total Inv-loop μ-loop
 add-total c = let e = c .before .before .before .before .before in record { fits = omega (arith, few-rows (e .evidence .ensures), e .before .before .loop .inv) }
+
+note-unknown-requires : tie.Need-note-unknown-requires Inv-loop μ-loop
+note-unknown-requires c κs = let e = c .before .before .before .before .before .before .before in tells _ _ _ _ _ _ (accepted _ _ _ _ _ _ (e .evidence .ensures) (search needs))
 
 was-true : (m : Bool) → not m ≡ false → m ≡ true
 was-true true e = refl
@@ -78,6 +81,7 @@ show-spec =
     slice-aggregate-print-rows
     print-rows-requires
     add-total
+    note-unknown-requires
     loop-less
     loop-again
     slice-aggregate-print-count

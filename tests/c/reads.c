@@ -64,7 +64,7 @@ static uint32_t number(const char *text)
 int main(int argc, char **argv)
 {
     char question[1024] = "//a";
-    uint32_t result[4];
+    uint32_t result[5];
     uint32_t n, first, every, around, brackets;
     size_t length;
     uint8_t *index;

@@ -1,4 +1,5 @@
-/* Each refusal that the header names is given for its reason, by all calls that know it; and what is empty may have a null pointer. */
+/* Each refusal that the header names is given for its reason, by all calls that know it; a name without a row is no refusal, but is told;
+   and what is empty may have a null pointer. */
 #include <stdio.h>
 #include <string.h>
 
@@ -16,17 +17,35 @@ static void expect(const char *what, uint32_t expected, uint32_t given)
     }
 }
 
-/* All calls on an index and a question, with no room for rows. */
+/* One of the two calls for rows. */
+typedef void rows_call(const uint8_t *, size_t, const uint8_t *, size_t, uint32_t, uint32_t *, size_t, uint32_t *);
+
+/* A call with no room for rows. The sixth number is behind its result. */
+static void expect_result(const char *what, rows_call *call, uint32_t refusal, uint32_t unknown, const uint8_t *index, size_t index_len,
+                          const void *question, size_t question_len)
+{
+    uint32_t result[6] = {9, 9, 9, 9, 9, 9};
+    call(index, index_len, question, question_len, 0, NULL, 0, result);
+    expect(what, refusal, result[ROADTHRUM_REFUSAL]);
+    expect(what, 0, result[ROADTHRUM_ROWS]);
+    expect(what, unknown, result[ROADTHRUM_UNKNOWN]);
+    expect(what, 9, result[5]);
+}
+
+/* All calls on an index and a question. */
+static void expect_calls(const char *what, uint32_t refusal, uint32_t unknown, const uint8_t *index, size_t index_len, const void *question,
+                         size_t question_len)
+{
+    expect(what, refusal <= ROADTHRUM_WRONG_NESTING ? refusal : 0, roadthrum_check(index, index_len));
+    expect_result(what, roadthrum_answer, refusal, unknown, index, index_len, question, question_len);
+    expect_result(what, roadthrum_evidence, refusal, unknown, index, index_len, question, question_len);
+}
+
+/* The same where no step is unknown, as on every refusal. */
 static void expect_refusal(const char *what, uint32_t refusal, const uint8_t *index, size_t index_len, const void *question,
                            size_t question_len)
 {
-    uint32_t result[4];
-    expect(what, refusal <= ROADTHRUM_WRONG_NESTING ? refusal : 0, roadthrum_check(index, index_len));
-    roadthrum_answer(index, index_len, question, question_len, 0, NULL, 0, result);
-    expect(what, refusal, result[ROADTHRUM_REFUSAL]);
-    roadthrum_evidence(index, index_len, question, question_len, 0, NULL, 0, result);
-    expect(what, refusal, result[ROADTHRUM_REFUSAL]);
-    expect(what, 0, result[ROADTHRUM_ROWS]);
+    expect_calls(what, refusal, ROADTHRUM_NO_STEP, index, index_len, question, question_len);
 }
 
 /* The same on the small day with one byte changed, and a question that is accepted. */
@@ -56,12 +75,34 @@ static void names(void)
     expect_refusal("1,025 bytes", ROADTHRUM_TOO_LONG, day, day_len, longest, 1025);
     expect_refusal("one slash", ROADTHRUM_NOT_FOLLOWING, day, day_len, "/call", 5);
     expect_refusal("33 steps", ROADTHRUM_TOO_LARGE, day, day_len, steps, 99);
-    expect_refusal("32 steps", 0, day, day_len, steps, 96);
+    expect_calls("32 steps", 0, 0, day, day_len, steps, 96);
+}
+
+/* A question that is accepted, on the small day. */
+static void expect_unknown(uint32_t step, const char *question)
+{
+    expect_calls(question, 0, step, day, day_len, question, strlen(question));
+}
+
+static void unknown_names(void)
+{
+    /* One row, `call`, with 0 labels. */
+    static const uint8_t empty_row[28] = {1, 0, 1, 0, 'c', 'a', 'l', 'l', 0, 0, 0, 0, 0, 0, 0, 0, 0, 0, 0, 0, 28};
+    expect_unknown(ROADTHRUM_NO_STEP, "//call[//cancel]");
+    expect_unknown(ROADTHRUM_NO_STEP, "//cancel//board");
+    expect_unknown(0, "//cancle");
+    expect_unknown(1, "//call[//cancle]");
+    expect_unknown(1, "//call[//cancle]//bord");
+    expect_unknown(2, "//call[//call[//cancle]]//board");
+    expect_unknown(2, "//call[//cancel]//Board");
+    expect_calls("a row with 0 labels", 0, ROADTHRUM_NO_STEP, empty_row, sizeof empty_row, "//call", 6);
+    expect_calls("no row behind one with 0 labels", 0, 1, empty_row, sizeof empty_row, "//call//call.", 13);
+    expect_refusal("an unknown name and an open bracket", ROADTHRUM_NOT_FOLLOWING, day, day_len, "//cancle[", 9);
 }
 
 static void null_pointers(void)
 {
-    uint32_t result[4];
+    uint32_t result[5];
     expect_refusal("no index", ROADTHRUM_TOO_SHORT, NULL, 0, "//call", 6);
     expect_refusal("no index and no question", ROADTHRUM_TOO_SHORT, NULL, 0, NULL, 0);
     expect_refusal("no question", ROADTHRUM_NOT_FOLLOWING, day, day_len, NULL, 0);
@@ -69,6 +110,7 @@ static void null_pointers(void)
     expect("no room for rows: rows", 0, result[ROADTHRUM_ROWS]);
     expect("no room for rows: more", 1, result[ROADTHRUM_MORE]);
     expect("no room for rows: next place", 2, result[ROADTHRUM_NEXT]);
+    expect("no room for rows: unknown step", ROADTHRUM_NO_STEP, result[ROADTHRUM_UNKNOWN]);
 }
 
 int main(int argc, char **argv)
@@ -79,6 +121,7 @@ int main(int argc, char **argv)
     day_len = fread(day, 1, sizeof day, file);
     fclose(file);
     names();
+    unknown_names();
     null_pointers();
     return failed;
 }

@@ -25,7 +25,7 @@ static uint8_t day[4 + 32 * 256];
 static uint8_t steps[32 * 4];
 static uint8_t brackets[1024];
 static uint32_t rows[64];
-static uint32_t result[4];
+static uint32_t result[5];
 
 /* An index of 256 tags, each with one record, 64 of them nested again and again: every part of the check has work to do. */
 static void write_day(void)

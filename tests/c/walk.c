@@ -6,6 +6,7 @@
 
 static size_t shown;
 static int quiet;
+static uint32_t unknown;
 
 static void show(const uint32_t *row, size_t steps)
 {
@@ -15,7 +16,12 @@ static void show(const uint32_t *row, size_t steps)
         printf(step + 1 < steps ? "%u " : "%u\n", (unsigned)row[step]);
 }
 
-/* Shows all rows. Gives the refusal, or 0. */
+static void note_unknown(uint32_t step)
+{
+    unknown = step;
+}
+
+/* Shows all rows, and notes an unknown step. Gives the refusal, or 0. */
 static uint32_t walk(const uint8_t *index, size_t index_len, const uint8_t *question, size_t question_len)
 {
 #include "readme_lines.c"
@@ -27,8 +33,9 @@ static void ask(const uint8_t *index, size_t index_len, const char *question)
     uint32_t refusal;
     printf("%s\n", question);
     shown = 0;
+    unknown = ROADTHRUM_NO_STEP;
     refusal = walk(index, index_len, (const uint8_t *)question, strlen(question));
-    printf("rows %u, refusal %u\n", (unsigned)shown, (unsigned)refusal);
+    printf("rows %u, refusal %u, unknown %u\n", (unsigned)shown, (unsigned)refusal, (unsigned)unknown);
 }
 
 /* A day of one list of 700 calls, one after the other. */
@@ -61,6 +68,8 @@ int main(int argc, char **argv)
     ask(small_day, small_day_len, "//call[//board]");
     ask(small_day, small_day_len, "//call[//call[//cancel]]//board");
     ask(small_day, small_day_len, "//lobby");
+    ask(small_day, small_day_len, "//call[//cancle]");
+    ask(small_day, small_day_len, "//cancel//board");
     ask(small_day, small_day_len, "//call[//board");
     ask(small_day, 3, "//call");
     write_calls();

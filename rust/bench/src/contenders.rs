@@ -48,7 +48,7 @@ impl Contender for Twin {
     }
 }
 
-/// The library's four numbers in the twin's form.
-pub fn page_of([refusal, rows, more, next]: [u32; 4]) -> Page {
-    Page { refusal, rows: rows as usize, more: more != 0, next }
+/// The library's five numbers in the twin's form.
+pub fn page_of([refusal, rows, more, next, unknown]: [u32; 5]) -> Page {
+    Page { refusal, rows: rows as usize, more: more != 0, next, unknown }
 }

@@ -25,7 +25,8 @@ pub fn small_case(seed: u64) -> Case {
     let random = &mut Seeded::new(seed);
     let (shape, mut question) = if random.chance(1, 16) {
         let shape = one_record_of_each_tag();
-        let form = Form { steps: 6 + random.below(27), brackets: 6, deepest: 8, names: &shape.names, downwards: true };
+        let (steps, damaged) = (6 + random.below(27), any_damage(random));
+        let form = Form { steps, brackets: 6, deepest: 8, names: &shape.names, damaged, downwards: true };
         let question = random_question(random, &form);
         (shape, question)
     } else {
@@ -50,7 +51,8 @@ pub fn large_case(seed: u64) -> Case {
     let shape = large_shape(random);
     let index = random_day(random, &shape).to_bytes();
     let steps = if random.chance(1, 8) { 32 } else { 1 + random.below(6) };
-    let form = Form { steps, brackets: random.below(6), deepest: 8, names: &shape.names, downwards: shape.tag_by_depth };
+    let (brackets, damaged) = (random.below(6), any_damage(random));
+    let form = Form { steps, brackets, deepest: 8, names: &shape.names, damaged, downwards: shape.tag_by_depth };
     let question = random_question(random, &form);
     Case::new(random, index, question, shape.records)
 }
@@ -122,6 +124,15 @@ fn any_names(random: &mut Seeded, count: usize) -> Vec<String> {
     (0..count).map(|name| NAMES[(first + name) % NAMES.len()].to_string()).collect()
 }
 
+/// How often, out of 8 times, a name of a question is damaged. In most questions none is, so that there is something to find.
+fn any_damage(random: &mut Seeded) -> usize {
+    if random.chance(1, 8) {
+        1 + random.below(4)
+    } else {
+        0
+    }
+}
+
 fn small_question(random: &mut Seeded, tags: &[String]) -> Vec<u8> {
     let mut names = tags.to_vec();
     if random.chance(1, 8) {
@@ -134,7 +145,7 @@ fn small_question(random: &mut Seeded, tags: &[String]) -> Vec<u8> {
         1 => (8 + random.below(4), 7, 10),
         _ => (few, random.below(7), 5),
     };
-    let form = Form { steps, brackets, deepest, names: &names, downwards: false };
+    let form = Form { steps, brackets, deepest, names: &names, damaged: any_damage(random), downwards: false };
     random_question(random, &form)
 }
 

@@ -37,11 +37,21 @@ fn evaluate(case: &Case, tally: &mut Tally) -> Result<Found, u32> {
     let asked = Asked::read(&case.index, &case.question)?;
     let way = if few_enough(&asked) { Way::AllPicks } else { Way::Sets };
     let found = asked.found(way);
+    count_names(tally, &asked, &found);
     tally.count(&format!("by {way:?}"), true);
     tally.count(&format!("by {way:?}, something found"), !found.rows.is_empty());
     tally.count(&format!("by {way:?}, something found with over 5 steps"), !found.rows.is_empty() && found.steps > 5);
     tally.count(&format!("by {way:?}, something found with 32 steps"), !found.rows.is_empty() && found.steps == 32);
     Ok(found)
+}
+
+/// Counts what there is among a question's names: some without a row, some whose row has number 0, or neither.
+pub fn count_names(tally: &mut Tally, asked: &Asked, found: &Found) {
+    tally.count("an unknown step", found.unknown.is_some());
+    tally.count("an unknown step after the first", found.unknown.is_some_and(|step| step > 0));
+    tally.count("an unknown step in a bracket", found.unknown.is_some_and(|step| !asked.is_outside_brackets(step)));
+    tally.count("no records though every name is known", found.unknown.is_none() && found.rows.is_empty());
+    tally.count("a known name without records", asked.has_an_empty_row());
 }
 
 /// Whether there are few enough picks to try all: as many as 12 records and 5 steps have at most.

@@ -5,6 +5,7 @@
 mod cases;
 mod comparing;
 mod damaged_index;
+mod damaged_name;
 mod damaged_question;
 mod libraries;
 mod random_days;
@@ -13,7 +14,7 @@ mod seeds;
 mod tally;
 
 pub use cases::{large_case, small_case, Case};
-pub use comparing::{compare_case, compare_page, compare_rows, few_enough};
+pub use comparing::{compare_case, compare_page, compare_rows, count_names, few_enough};
 pub use damaged_index::damage_labels;
 pub use libraries::{Call, Library, PROVED, TWIN, WRAPPED};
 pub use seeds::Seeds;

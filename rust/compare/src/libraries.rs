@@ -1,6 +1,6 @@
 //! What is compared: the proved library, or in its place one that is wrong.
 
-use evaluator::Outcome;
+use evaluator::{Outcome, NO_STEP};
 use roadthrum::raw;
 
 /// A call for rows: index, question, place and the lent buffer.
@@ -35,18 +35,20 @@ pub const TWIN: Library = Library {
     evidence: |index, question, place, buffer| twinned(twin::evidence(index, question, place, buffer)),
 };
 
-fn numbered([refusal, rows, more, next]: [u32; 4]) -> Outcome {
+fn numbered([refusal, rows, more, next, unknown]: [u32; 5]) -> Outcome {
     assert!(more <= 1, "more is {more}");
-    Outcome { refusal, rows: rows as usize, more: more == 1, next }
+    Outcome { refusal, rows: rows as usize, more: more == 1, next, unknown }
 }
 
 fn outcome(result: Result<roadthrum::Page, roadthrum::Refusal>) -> Outcome {
     match result {
-        Ok(roadthrum::Page { rows, more, next }) => Outcome { refusal: 0, rows, more, next },
+        Ok(roadthrum::Page { rows, more, next, unknown }) => {
+            Outcome { refusal: 0, rows, more, next, unknown: unknown.map_or(NO_STEP, |step| step as u32) }
+        }
         Err(refusal) => Outcome::refused(refusal.number()),
     }
 }
 
-fn twinned(twin::Page { refusal, rows, more, next }: twin::Page) -> Outcome {
-    Outcome { refusal, rows, more, next }
+fn twinned(twin::Page { refusal, rows, more, next, unknown }: twin::Page) -> Outcome {
+    Outcome { refusal, rows, more, next, unknown }
 }

@@ -1,5 +1,6 @@
 //! Questions that follow the notation.
 
+use crate::damaged_name::damaged_name;
 use days::Seeded;
 
 /// What a random question is like.
@@ -11,6 +12,8 @@ pub struct Form<'a> {
     /// Brackets are so deep at most.
     pub deepest: usize,
     pub names: &'a [String],
+    /// So often, out of 8 times, a step's name is a damaged one.
+    pub damaged: usize,
     /// Whether each name stands later among the names than that of the step it hangs from, as in a day whose tags follow from depth.
     pub downwards: bool,
 }
@@ -44,12 +47,16 @@ impl Writing<'_> {
 
     /// Writes a step and gives the first of the names for those that hang from it.
     fn step(&mut self, random: &mut Seeded, depth: usize, first_name: usize) -> usize {
-        let Form { names, downwards, brackets, deepest, .. } = self.form;
+        let Form { names, damaged, downwards, brackets, deepest, .. } = self.form;
         let choice = names.len() - first_name;
         let name = first_name + random.below(if *downwards { choice.min(2) } else { choice });
         let first_below = if *downwards { name + 1 } else { 0 };
         self.text.extend(b"//");
-        self.text.extend(names[name].bytes());
+        if random.chance(*damaged, 8) {
+            self.text.extend(damaged_name(random, &names[name]));
+        } else {
+            self.text.extend(names[name].bytes());
+        }
         self.left -= 1;
         while depth < *deepest && self.may_go_on(first_below) && random.chance(*brackets, 8) {
             self.text.push(b'[');

@@ -2,7 +2,7 @@
 
 use days::{apart_day, halves_day, lift_day, nested_day, Day, Label};
 use roadthrum::Refusal;
-use twin::Page;
+use twin::{Page, NO_STEP};
 
 const MOST_LABELS: usize = 1_048_576;
 const MOST_NESTED: usize = 64;
@@ -26,8 +26,11 @@ impl Call {
             Call::Evidence => roadthrum::evidence(index, question.as_bytes(), place, out),
         };
         match outcome {
-            Ok(page) => Page { refusal: 0, rows: page.rows, more: page.more, next: page.next },
-            Err(refusal) => Page { refusal: refusal.number(), rows: 0, more: false, next: 0 },
+            Ok(page) => {
+                let unknown = page.unknown.map_or(NO_STEP, |step| step as u32);
+                Page { refusal: 0, rows: page.rows, more: page.more, next: page.next, unknown }
+            }
+            Err(refusal) => Page { refusal: refusal.number(), rows: 0, more: false, next: 0, unknown: NO_STEP },
         }
     }
 
@@ -71,6 +74,7 @@ fn agreed(call: Call, index: &[u8], question: &str, place: u32, length: usize) -
 fn put(index: &[u8], question: &str) -> usize {
     let (all, positions) = agreed(Call::Answer, index, question, 0, index.len() / 8);
     assert_eq!((all.refusal, all.more), (0, false), "{question}");
+    assert!(all.unknown == NO_STEP || all.rows == 0, "{question}");
     assert!(positions[..all.rows].is_sorted_by(|a, b| a < b), "{question}");
     let width = steps(question);
     let (shown, _) = agreed(Call::Evidence, index, question, 0, (all.rows + 1) * width);
@@ -80,6 +84,14 @@ fn put(index: &[u8], question: &str) -> usize {
         assert_eq!(agreed(call, index, question, all.next / 2, length).0.refusal, 0, "{question}");
     }
     all.rows
+}
+
+/// Puts a question with a name that has no row: no record is returned, and every page names the first step that has such a name.
+fn put_unknown(index: &[u8], question: &str, step: u32) {
+    assert_eq!(put(index, question), 0, "{question}");
+    for (call, place) in [(Call::Answer, 0), (Call::Evidence, u32::MAX)] {
+        assert_eq!(agreed(call, index, question, place, 100).0.unknown, step, "{question}");
+    }
 }
 
 /// Pages without room for a row, and pages from a place past the list's end.
@@ -117,7 +129,7 @@ fn nested_days_of_the_most_labels() {
         let chain = put(&index, &"//t000".repeat(32));
         assert_eq!(chain > 0, tags <= 2);
         put(&index, &format!("//t000//{last}").repeat(16));
-        assert_eq!(put(&index, "//t000//t256"), 0);
+        put_unknown(&index, "//t000//t256", 1);
         put_at_the_edges(&index, "//t000//t000");
     }
 }
@@ -149,7 +161,8 @@ fn lift_days_of_the_most_labels() {
             assert!(put(&index, question) > 0, "{question}");
         }
         assert_eq!(put(&index, &"//call".repeat(32)), 0);
-        assert_eq!(put(&index, "//lobby"), 0);
+        put_unknown(&index, "//lobby", 0);
+        put_unknown(&index, "//call[//cancle]//bord", 1);
         put_at_the_edges(&index, "//call[//cancel]//board");
     }
 }
@@ -197,7 +210,7 @@ fn refused(index: &[u8], number: u32) {
     for question in ["//call//t000", "//t000["] {
         for call in Call::BOTH {
             let (page, _) = agreed(call, index, question, 0, 1000);
-            assert_eq!(page, Page { refusal: number, rows: 0, more: false, next: 0 });
+            assert_eq!(page, Page { refusal: number, rows: 0, more: false, next: 0, unknown: NO_STEP });
         }
     }
 }

@@ -1,16 +1,17 @@
 //! The library beside the second evaluator on days of up to 5,000 records: single pages, all pages in a row, and damaged days.
 
-use compare::{compare_case, compare_rows, damage_labels, large_case, Case, Seeds, Tally, PROVED};
+use compare::{compare_case, compare_rows, count_names, damage_labels, large_case, Case, Seeds, Tally, PROVED};
 use days::Seeded;
-use evaluator::{Asked, Row, Way};
+use evaluator::{Asked, Found, Row, Way};
 use roadthrum::{answer_pages, evidence_pages, Pages};
 use std::collections::BTreeSet;
 
 fn compare_larger(seed: u64) -> Result<Tally, String> {
     let mut case = large_case(seed);
     let random = &mut Seeded::new(!seed);
-    let found = Asked::read(&case.index, &case.question).map(|asked| asked.found(Way::Sets));
-    let mut tally = compare_rows(&PROVED, &case, &found)?;
+    let mut tally = Tally::default();
+    let found = evaluate(&case, &mut tally);
+    tally.add(compare_rows(&PROVED, &case, &found)?);
     for _ in 0..5 {
         case.choose_page(random);
         tally.add(compare_rows(&PROVED, &case, &found)?);
@@ -20,8 +21,8 @@ fn compare_larger(seed: u64) -> Result<Tally, String> {
     for place in BTreeSet::from([0, case.place]) {
         let rows: Vec<Row> = found.rows.iter().filter(|row| row[found.returned] >= place).cloned().collect();
         let returned: Vec<Row> = rows.iter().map(|row| vec![row[found.returned]]).collect();
-        compare_walk(&case, room, answer_pages(&case.index, &case.question, room).starting_at(place), &returned)?;
-        compare_walk(&case, room, evidence_pages(&case.index, &case.question, room).starting_at(place), &rows)?;
+        compare_walk(&case, room, answer_pages(&case.index, &case.question, room).starting_at(place), &returned, found.unknown)?;
+        compare_walk(&case, room, evidence_pages(&case.index, &case.question, room).starting_at(place), &rows, found.unknown)?;
         let kind = if place == 0 { "walks of many pages" } else { "walks of many pages from a later place" };
         tally.count(kind, rows.len() > 2 * room);
     }
@@ -32,12 +33,27 @@ fn compare_larger(seed: u64) -> Result<Tally, String> {
     Ok(tally)
 }
 
-/// Whether the pages of a walk are the rows in order, each page with as many as it has room for, and none empty.
-fn compare_walk(case: &Case, room: usize, walk: Pages, rows: &[Row]) -> Result<(), String> {
+/// What the case gives by the second evaluator, or the refusal number.
+fn evaluate(case: &Case, tally: &mut Tally) -> Result<Found, u32> {
+    let asked = Asked::read(&case.index, &case.question)?;
+    let found = asked.found(Way::Sets);
+    count_names(tally, &asked, &found);
+    Ok(found)
+}
+
+/// Whether the pages of a walk are the rows in order, each page with as many as it has room for, and none empty; and whether the walk tells
+/// the unknown step, before it begins and after it ends.
+fn compare_walk(case: &Case, room: usize, mut walk: Pages, rows: &[Row], unknown: Option<usize>) -> Result<(), String> {
+    let before = walk.unknown();
     let mut pages = Vec::new();
-    for page in walk {
+    for page in &mut walk {
         let page = page.map_err(|refusal| format!("a walk gives the refusal {}\n{case}", refusal.number()))?;
         pages.push(page.iter().map(<[u32]>::to_vec).collect::<Vec<Row>>());
+    }
+    for told in [before, walk.unknown()] {
+        if told != Ok(unknown) {
+            return Err(format!("the unknown step of a walk: expected {unknown:?}, given {told:?}\n{case}"));
+        }
     }
     let expected: Vec<Vec<Row>> = rows.chunks(room).map(<[Row]>::to_vec).collect();
     if pages != expected {
@@ -57,6 +73,15 @@ fn larger_days() {
         assert!(seen.of(kind) >= 1_000, "{kind} is hardly seen");
     }
     assert!(seen.of("walks of many pages from a later place") >= 100, "walks from a later place are hardly seen");
+    for kind in [
+        "an unknown step",
+        "an unknown step after the first",
+        "an unknown step in a bracket",
+        "no records though every name is known",
+        "a known name without records",
+    ] {
+        assert!(seen.of(kind) >= 25, "{kind} is hardly seen");
+    }
     for refusal in [5, 6] {
         assert!(seen.of(&format!("answer: refusal {refusal}")) >= 50, "refusal {refusal} is hardly seen");
     }

@@ -1,7 +1,8 @@
-//! The program beside the evaluators: both files are written into a folder of their own, and what it prints is compared as a whole.
+//! The program beside the evaluators: both files are written into a folder of their own, and what it prints, and says on standard error, is
+//! compared as a whole.
 
 use compare::{few_enough, large_case, small_case, Case, Seeds, Tally};
-use evaluator::{printed, Asked, Way};
+use evaluator::{noted, printed, Asked, Way};
 use std::path::{Path, PathBuf};
 use std::process::Command;
 
@@ -19,14 +20,17 @@ fn compare_printed(kind: &str, seed: u64, case: &Case) -> Result<Tally, String> 
     std::fs::write(folder.join("query.txt"), &case.question).expect("the question is written");
     let output = Command::new(program()).current_dir(&folder).output().expect("the program runs");
     std::fs::remove_dir_all(&folder).expect("the folder is removed");
-    let expected = expected(case);
-    if !output.status.success() || !output.stderr.is_empty() || output.stdout != expected.as_bytes() {
-        return Err(format!("expected:\n{expected}given ({}):\n{}\n{case}", output.status, output.stdout.escape_ascii()));
+    let (expected, note) = (expected(case), noted(&case.index, &case.question));
+    if !output.status.success() || output.stderr != note.as_bytes() || output.stdout != expected.as_bytes() {
+        let (printed, said) = (output.stdout.escape_ascii(), output.stderr.escape_ascii());
+        return Err(format!("expected:\n{expected}{note}given ({}):\n{printed}\n{said}\n{case}", output.status));
     }
     let mut tally = Tally::default();
     tally.count("refused", expected.starts_with("refused"));
     tally.count("rows", !expected.starts_with("refused") && !expected.starts_with("done"));
     tally.count("over 64 rows", expected.lines().count() > 65);
+    tally.count("a note", !note.is_empty());
+    tally.count("no rows and no note", expected.starts_with("done") && note.is_empty());
     Ok(tally)
 }
 
@@ -42,14 +46,17 @@ fn small_days_are_printed() {
     if !seeds.one_alone() {
         assert!(seen.of("refused") >= 1_000);
         assert!(seen.of("rows") >= 400);
+        assert!(seen.of("a note") >= 300);
+        assert!(seen.of("no rows and no note") >= 300);
     }
 }
 
 #[test]
 fn days_of_many_pages_are_printed() {
-    let seeds = Seeds::new(200);
+    let seeds = Seeds::new(300);
     let seen = seeds.run(|seed| compare_printed("large", seed, &large_case(seed)));
     if !seeds.one_alone() {
         assert!(seen.of("over 64 rows") >= 50);
+        assert!(seen.of("a note") >= 5);
     }
 }

@@ -19,6 +19,15 @@ fn compare_small(library: &Library, cases: u64, each_refusal: u64, each_kind: u6
             assert!(seen.of(&format!("{call}: {kind}")) >= each_kind, "{kind} is hardly seen");
         }
     }
+    for kind in [
+        "an unknown step",
+        "an unknown step after the first",
+        "an unknown step in a bracket",
+        "no records though every name is known",
+        "a known name without records",
+    ] {
+        assert!(seen.of(kind) >= each_kind, "{kind} is hardly seen");
+    }
 }
 
 #[test]
@@ -61,5 +70,36 @@ fn steps_of_small_questions() {
     }
     for kind in ["1 steps", "2 steps", "5 steps", "32 steps", "refusal 7", "refusal 8", "refusal 9"] {
         assert!(seen.of(kind) >= 20, "{kind} is hardly seen");
+    }
+}
+
+/// Compares what a walk says of the unknown step, before its first page and after its last, with what the evaluator reads.
+fn compare_unknown(seed: u64) -> Result<Tally, String> {
+    let case = small_case(seed);
+    let expected = Asked::read(&case.index, &case.question).map(|asked| asked.unknown());
+    let mut walk = roadthrum::evidence_pages(&case.index, &case.question, case.answer_room).starting_at(case.place);
+    let before = walk.unknown();
+    walk.by_ref().for_each(drop);
+    for given in [before, walk.unknown()].map(|given| given.map_err(|refusal| refusal.number())) {
+        if expected != given {
+            return Err(format!("the unknown step of a walk: expected {expected:?}, given {given:?}\n{case}"));
+        }
+    }
+    let mut tally = Tally::default();
+    tally.count("a refusal", expected.is_err());
+    tally.count("an unknown step", expected.is_ok_and(|unknown| unknown.is_some()));
+    tally.count("no unknown step", expected.is_ok_and(|unknown| unknown.is_none()));
+    Ok(tally)
+}
+
+#[test]
+fn unknown_steps_of_walks() {
+    let seeds = Seeds::new(20_000);
+    let seen = seeds.run(compare_unknown);
+    if seeds.one_alone() {
+        return;
+    }
+    for kind in ["a refusal", "an unknown step", "no unknown step"] {
+        assert!(seen.of(kind) >= 1_000, "{kind} is hardly seen");
     }
 }

@@ -1,11 +1,12 @@
 //! Every row of document 01's table "A small day", marked or not: the library as C calls it and as Rust does, the twin and both evaluators
 //! are put to each in all calls, and all have to give what the table says, in every field and every number of the buffer.
+//! The cases of change request C-16, names without a row, are put to all of them as well.
 
 mod rows;
 
 use compare::{compare_page, Call, Library, PROVED, TWIN, WRAPPED};
-use evaluator::{Asked, Found, Outcome, Way};
-use rows::{table, Case, Told};
+use evaluator::{Asked, Found, Outcome, Way, NO_STEP};
+use rows::{table, unknown_names, Case, Told};
 
 /// What is put to the table.
 const ALL: [(&str, Library); 5] = [
@@ -52,9 +53,9 @@ fn put(library: &Library, case: &Case) -> Result<(), String> {
 fn compare_call(case: &Case, room: usize, numbers: Vec<u32>, evaluator: Call, given: Call) -> Result<(), String> {
     let expected = |buffer: &mut [u32]| match case.told {
         Told::Refused(number) => Outcome::refused(number),
-        Told::Gives { rows, more, next, .. } => {
+        Told::Gives { rows, more, next, unknown, .. } => {
             buffer[..numbers.len()].copy_from_slice(&numbers);
-            Outcome { refusal: 0, rows: rows.len(), more, next }
+            Outcome { refusal: 0, rows: rows.len(), more, next, unknown }
         }
         Told::Accepted => {
             let outcome = evaluator(&case.index, &case.question, case.place, buffer);
@@ -66,8 +67,8 @@ fn compare_call(case: &Case, room: usize, numbers: Vec<u32>, evaluator: Call, gi
 }
 
 #[test]
-fn all_give_what_the_table_says() {
-    for case in table() {
+fn all_give_what_the_papers_say() {
+    for case in table().into_iter().chain(unknown_names()) {
         for (name, library) in &ALL {
             if let Err(difference) = put(library, &case) {
                 panic!("{case}\n{name}: {difference}");
@@ -85,13 +86,14 @@ fn every_row_of_the_table_is_here() {
     assert_eq!((small_day.len(), [20, 44, 68].map(|offset| small_day[offset])), (148, [76, 92, 132]));
 }
 
-/// How many cases tell a library from the right one.
-fn tell(library: Library) -> usize {
-    table().iter().filter(|case| put(&library, case).is_err()).count()
+/// How many of the cases tell a library from the right one.
+fn telling(cases: &[Case], library: &Library) -> usize {
+    cases.iter().filter(|case| put(library, case).is_err()).count()
 }
 
 #[test]
 fn a_wrong_library_is_told() {
+    let tell = |library| telling(&table(), &library);
     assert_eq!(tell(PROVED), 0);
     let accepts_every_index = Library { check: |_| 0, ..PROVED };
     assert!(tell(accepts_every_index) >= 10);
@@ -118,4 +120,24 @@ fn a_wrong_library_is_told() {
         ..PROVED
     };
     assert_eq!(tell(changes_the_rest), table().len() - 1, "only a buffer of one number is the same from behind");
+}
+
+#[test]
+fn a_library_that_is_wrong_about_unknown_names_is_told() {
+    // How many cases of the table, and of the change request.
+    let tell = |library| (telling(&table(), &library), telling(&unknown_names(), &library));
+    assert_eq!(tell(PROVED), (0, 0));
+    let never_says_one = Library {
+        answer: |index, question, place, buffer| Outcome { unknown: NO_STEP, ..(PROVED.answer)(index, question, place, buffer) },
+        ..PROVED
+    };
+    assert_eq!(tell(never_says_one), (2, 8));
+    let never_says_none = Library {
+        evidence: |index, question, place, buffer| {
+            let outcome = (PROVED.evidence)(index, question, place, buffer);
+            Outcome { unknown: outcome.unknown % NO_STEP, ..outcome }
+        },
+        ..PROVED
+    };
+    assert_eq!(tell(never_says_none), (table().len() - 2, 4));
 }

@@ -1,7 +1,7 @@
 //! The comparison can fail: each library here is wrong in one way, and is told from the right one within few cases.
 
 use compare::{compare_case, compare_page, small_case, Library, PROVED};
-use evaluator::Outcome;
+use evaluator::{Outcome, NO_STEP};
 
 /// What the comparison says of the first case in which the library is found to be wrong.
 fn told(library: Library) -> String {
@@ -82,9 +82,138 @@ fn one_that_writes_on_a_refusal() {
     assert!(told(careless).starts_with("evidence: buffer["));
 }
 
+/// A step of an accepted question: how many labels the row of its name has, if there is one, and in how many brackets the step stands.
+struct Step {
+    labels: Option<u32>,
+    brackets: usize,
+}
+
+impl Step {
+    fn is_unknown(&self) -> bool {
+        self.labels.is_none()
+    }
+}
+
+/// The steps of an accepted question, with each name looked up by a question of its own.
+fn steps(index: &[u8], question: &[u8]) -> Vec<Step> {
+    let mut steps = Vec::new();
+    let mut brackets = 0;
+    for part in String::from_utf8_lossy(question).split("//").skip(1) {
+        let name = part.trim_end_matches(['[', ']']);
+        let alone = (PROVED.answer)(index, format!("//{name}").as_bytes(), u32::MAX, &mut []);
+        steps.push(Step { labels: (alone.unknown == NO_STEP).then_some(alone.next), brackets });
+        brackets = brackets + part.matches('[').count() - part.matches(']').count();
+    }
+    steps
+}
+
+/// The outcome with the unknown step that is chosen from all steps, if the question is accepted.
+fn telling(outcome: Outcome, index: &[u8], question: &[u8], unknown: fn(&[Step]) -> Option<usize>) -> Outcome {
+    if outcome.refusal > 0 {
+        return outcome;
+    }
+    Outcome { unknown: unknown(&steps(index, question)).map_or(NO_STEP, |step| step as u32), ..outcome }
+}
+
+#[test]
+fn one_that_tells_the_first_unknown_step_is_not_told() {
+    let first = Library {
+        answer: |index, question, place, buffer| {
+            let outcome = (PROVED.answer)(index, question, place, buffer);
+            telling(outcome, index, question, |steps| steps.iter().position(Step::is_unknown))
+        },
+        ..PROVED
+    };
+    assert!((0..2_000).all(|seed| compare_case(&first, &small_case(seed)).is_ok()));
+}
+
+#[test]
+fn one_that_tells_the_last_unknown_step() {
+    let last = Library {
+        answer: |index, question, place, buffer| {
+            let outcome = (PROVED.answer)(index, question, place, buffer);
+            telling(outcome, index, question, |steps| steps.iter().rposition(Step::is_unknown))
+        },
+        ..PROVED
+    };
+    assert!(told(last).starts_with("answer: expected Outcome"));
+}
+
+#[test]
+fn one_that_takes_a_row_with_number_0_for_none() {
+    let no_labels = Library {
+        evidence: |index, question, place, buffer| {
+            let outcome = (PROVED.evidence)(index, question, place, buffer);
+            telling(outcome, index, question, |steps| steps.iter().position(|step| step.labels.is_none_or(|labels| labels == 0)))
+        },
+        ..PROVED
+    };
+    assert!(told(no_labels).starts_with("evidence: expected Outcome"));
+}
+
+#[test]
+fn one_that_never_says_that_no_step_is_unknown() {
+    let first_step_instead = Library {
+        answer: |index, question, place, buffer| {
+            let outcome = (PROVED.answer)(index, question, place, buffer);
+            telling(outcome, index, question, |steps| steps.iter().position(Step::is_unknown).or(Some(0)))
+        },
+        ..PROVED
+    };
+    assert!(told(first_step_instead).starts_with("answer: expected Outcome"));
+}
+
+#[test]
+fn one_that_looks_for_unknown_steps_outside_brackets_only() {
+    let outside = Library {
+        evidence: |index, question, place, buffer| {
+            let outcome = (PROVED.evidence)(index, question, place, buffer);
+            telling(outcome, index, question, |steps| steps.iter().position(|step| step.is_unknown() && step.brackets == 0))
+        },
+        ..PROVED
+    };
+    assert!(told(outside).starts_with("evidence: expected Outcome"));
+}
+
+#[test]
+fn one_that_tells_the_unknown_step_on_the_first_page_only() {
+    let first_page = Library {
+        answer: |index, question, place, buffer| match (PROVED.answer)(index, question, place, buffer) {
+            outcome if place > 0 => Outcome { unknown: NO_STEP, ..outcome },
+            outcome => outcome,
+        },
+        ..PROVED
+    };
+    assert!(told(first_page).starts_with("answer: expected Outcome"));
+}
+
+#[test]
+fn one_that_tells_a_step_on_a_refusal() {
+    let first_step = Library {
+        evidence: |index, question, place, buffer| match (PROVED.evidence)(index, question, place, buffer) {
+            outcome if outcome.refusal > 0 => Outcome { unknown: 0, ..outcome },
+            outcome => outcome,
+        },
+        ..PROVED
+    };
+    assert!(told(first_step).starts_with("evidence: expected Outcome"));
+}
+
+#[test]
+fn one_that_refuses_an_unknown_name() {
+    let strict = Library {
+        answer: |index, question, place, buffer| match (PROVED.answer)(index, question, place, buffer) {
+            outcome if outcome.unknown != NO_STEP => Outcome::refused(8),
+            outcome => outcome,
+        },
+        ..PROVED
+    };
+    assert!(told(strict).starts_with("answer: expected Outcome"));
+}
+
 #[test]
 fn each_part_of_an_outcome_and_each_number_is_compared() {
-    const RIGHT: Outcome = Outcome { refusal: 0, rows: 2, more: true, next: 7 };
+    const RIGHT: Outcome = Outcome { refusal: 0, rows: 2, more: true, next: 7, unknown: 32 };
     let write = |outcome: Outcome, numbers: [u32; 3]| {
         move |buffer: &mut [u32]| {
             buffer.copy_from_slice(&numbers);
@@ -93,9 +222,13 @@ fn each_part_of_an_outcome_and_each_number_is_compared() {
     };
     let compared = |outcome, numbers| compare_page(3, write(RIGHT, [4, 5, 6]), write(outcome, numbers));
     assert_eq!(compared(RIGHT, [4, 5, 6]), Ok(RIGHT));
-    for wrong in
-        [Outcome { refusal: 1, ..RIGHT }, Outcome { rows: 3, ..RIGHT }, Outcome { more: false, ..RIGHT }, Outcome { next: 8, ..RIGHT }]
-    {
+    for wrong in [
+        Outcome { refusal: 1, ..RIGHT },
+        Outcome { rows: 3, ..RIGHT },
+        Outcome { more: false, ..RIGHT },
+        Outcome { next: 8, ..RIGHT },
+        Outcome { unknown: 31, ..RIGHT },
+    ] {
         assert!(compared(wrong, [4, 5, 6]).is_err(), "{wrong:?}");
     }
     for (place, wrong) in [[0, 5, 6], [4, 0, 6], [4, 5, 0]].into_iter().enumerate() {

@@ -59,12 +59,10 @@ impl Index {
         Ok(index)
     }
 
-    /// The records of a tag. A name without a row has none.
-    pub fn list(&self, name: &[u8]) -> Vec<Label> {
-        match self.tags.iter().find(|(tag, _)| tag == name) {
-            Some((_, list)) => list.clone(),
-            None => Vec::new(),
-        }
+    /// The records of a tag, of which there may be none, or nothing for a name without a row.
+    pub fn list(&self, name: &[u8]) -> Option<Vec<Label>> {
+        let (_, list) = self.tags.iter().find(|(tag, _)| tag == name)?;
+        Some(list.clone())
     }
 
     /// All labels of the whole index.

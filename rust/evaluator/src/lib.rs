@@ -1,4 +1,4 @@
-//! What document 01 says that a question gives, found from its definitions alone and in its words.
+//! What document 01, with change request C-16 of document 02, says that a question gives, found from their words alone.
 //!
 //! Nothing here is quick or shares anything with the library that it judges. There are two evaluators: the first tries all picks, the
 //! second works with sets and so can take larger days and longer questions.
@@ -13,8 +13,8 @@ mod printed;
 mod question;
 mod sets;
 
-pub use pages::{Found, Outcome, Row};
-pub use printed::printed;
+pub use pages::{Found, Outcome, Row, NO_STEP};
+pub use printed::{noted, printed};
 
 use index::{Index, Label};
 use question::Question;
@@ -36,7 +36,11 @@ pub enum Way {
 
 /// A lawful index and an accepted question.
 pub struct Asked {
-    /// For each step the records of its tag.
+    /// For each step its name.
+    names: Vec<Vec<u8>>,
+    /// For each step whether the index has a row of that name.
+    has_row: Vec<bool>,
+    /// For each step the records of its tag. A name without a row has none, and so has one whose number is 0.
     lists: Vec<Vec<Label>>,
     /// For each step the number of the step that it hangs from.
     hangs_from: Vec<Option<usize>>,
@@ -51,8 +55,29 @@ impl Asked {
     pub fn read(index: &[u8], question: &[u8]) -> Result<Asked, u32> {
         let index = Index::read(index)?;
         let Question { steps, returned } = Question::read(question)?;
-        let lists = steps.iter().map(|step| index.list(&step.name)).collect();
-        Ok(Asked { lists, hangs_from: steps.iter().map(|step| step.hangs_from).collect(), returned })
+        let lists: Vec<Option<Vec<Label>>> = steps.iter().map(|step| index.list(&step.name)).collect();
+        Ok(Asked {
+            has_row: lists.iter().map(Option::is_some).collect(),
+            lists: lists.into_iter().map(Option::unwrap_or_default).collect(),
+            hangs_from: steps.iter().map(|step| step.hangs_from).collect(),
+            names: steps.into_iter().map(|step| step.name).collect(),
+            returned,
+        })
+    }
+
+    /// The first step whose name has no row.
+    pub fn unknown(&self) -> Option<usize> {
+        self.has_row.iter().position(|has_row| !has_row)
+    }
+
+    /// Whether some step's name has a row with number 0.
+    pub fn has_an_empty_row(&self) -> bool {
+        self.has_row.iter().zip(&self.lists).any(|(has_row, list)| *has_row && list.is_empty())
+    }
+
+    /// Whether the step stands outside all brackets: it is the returned one, or one on the way up from that one by what hangs from what.
+    pub fn is_outside_brackets(&self, step: usize) -> bool {
+        std::iter::successors(Some(self.returned), |below| self.hangs_from[*below]).any(|outside| outside == step)
     }
 
     /// All that the question gives.
@@ -61,7 +86,8 @@ impl Asked {
             Way::AllPicks => picks::rows(self),
             Way::Sets => sets::rows(self),
         };
-        Found { rows, steps: self.lists.len(), returned: self.returned, labels: self.lists[self.returned].len() }
+        let labels = self.lists[self.returned].len();
+        Found { rows, steps: self.lists.len(), returned: self.returned, labels, unknown: self.unknown() }
     }
 
     /// At most so many beginnings of one length there are to try on the way to all picks.

@@ -1,5 +1,8 @@
 //! The page rule, the same for the answer and the evidence.
 
+/// What stands in place of a step where there is no unknown one.
+pub const NO_STEP: u32 = 32;
+
 /// What a call gives beside the numbers in the lent buffer.
 #[derive(Clone, Copy, Debug, PartialEq, Eq)]
 pub struct Outcome {
@@ -7,12 +10,14 @@ pub struct Outcome {
     pub rows: usize,
     pub more: bool,
     pub next: u32,
+    /// The first step whose name has no row, or 32 if there is none.
+    pub unknown: u32,
 }
 
 impl Outcome {
-    /// A refusal has 0 rows, no further record, next place 0. The lent buffer stays unchanged.
+    /// A refusal has 0 rows, no further record, next place 0 and no unknown step. The lent buffer stays unchanged.
     pub fn refused(refusal: u32) -> Outcome {
-        Outcome { refusal, rows: 0, more: false, next: 0 }
+        Outcome { refusal, rows: 0, more: false, next: 0, unknown: NO_STEP }
     }
 }
 
@@ -30,6 +35,8 @@ pub struct Found {
     pub returned: usize,
     /// The number of labels in the returned step's list.
     pub labels: usize,
+    /// The first step whose name has no row.
+    pub unknown: Option<usize>,
 }
 
 impl Found {
@@ -50,9 +57,10 @@ impl Found {
         for (row, part) in records[..rows].iter().zip(buffer.chunks_exact_mut(width)) {
             part.copy_from_slice(written_part(row));
         }
-        match records.get(rows) {
-            Some(first_not_written) => Outcome { refusal: 0, rows, more: true, next: first_not_written[self.returned] },
-            None => Outcome { refusal: 0, rows, more: false, next: self.labels as u32 },
-        }
+        let (more, next) = match records.get(rows) {
+            Some(first_not_written) => (true, first_not_written[self.returned]),
+            None => (false, self.labels as u32),
+        };
+        Outcome { refusal: 0, rows, more, next, unknown: self.unknown.map_or(NO_STEP, |step| step as u32) }
     }
 }

@@ -19,3 +19,15 @@ pub fn printed(way: Way, index: &[u8], question: &[u8]) -> String {
     }
     text + &format!("done {}\n", rows.len())
 }
+
+/// All that the program says on standard error: of a question that is accepted the first step whose name has no row, counted from 1, with
+/// that name as it was typed. Else nothing.
+pub fn noted(index: &[u8], question: &[u8]) -> String {
+    let Ok(asked) = Asked::read(index, question) else {
+        return String::new();
+    };
+    match asked.unknown() {
+        Some(step) => format!("note: step {}: no record of this day is called \"{}\"\n", step + 1, asked.names[step].escape_ascii()),
+        None => String::new(),
+    }
+}

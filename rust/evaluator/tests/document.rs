@@ -3,7 +3,7 @@
 mod days;
 
 use days::{day, small_day};
-use evaluator::{check, printed, Asked, Outcome, Way};
+use evaluator::{check, printed, Asked, Outcome, Way, NO_STEP};
 
 const WAYS: [Way; 2] = [Way::AllPicks, Way::Sets];
 
@@ -18,13 +18,18 @@ fn nested(calls: u32) -> Vec<u8> {
     day(&[("call", &labels)])
 }
 
-/// Whether, in the small day, the question gives these rows and no further record, in either way.
+/// Whether, in the small day, the question gives these rows and no further record, in either way, and each of its names has a row.
 fn gives(question: &str, positions: &[u32], rows: &[&[u32]], labels: u32) {
+    gives_and_tells(question, positions, rows, labels, NO_STEP);
+}
+
+/// The same, with the first step whose name has no row.
+fn gives_and_tells(question: &str, positions: &[u32], rows: &[&[u32]], labels: u32, unknown: u32) {
     let asked = Asked::read(&small_day(), question.as_bytes()).unwrap();
     for way in WAYS {
         let found = asked.found(way);
         let mut buffer = vec![77; 100];
-        let outcome = Outcome { refusal: 0, rows: rows.len(), more: false, next: labels };
+        let outcome = Outcome { refusal: 0, rows: rows.len(), more: false, next: labels, unknown };
         assert_eq!(found.answer(0, &mut buffer), outcome, "{question}");
         assert_eq!(buffer[..positions.len()], *positions, "{question}");
         assert!(buffer[positions.len()..].iter().all(|number| *number == 77), "{question}");
@@ -53,7 +58,7 @@ fn questions_to_the_small_day() {
     gives("//call//cancel//board", &[], &[], 2);
     gives("//call[//cancel][//cancel]", &[0, 1], &[&[0, 0, 0], &[1, 1, 1]], 5);
     gives("//call[//call[//cancel]]//board", &[0], &[&[0, 1, 1, 0]], 2);
-    gives("//lobby", &[], &[], 0);
+    gives_and_tells("//lobby", &[], &[], 0, 0);
 }
 
 #[test]
@@ -62,11 +67,11 @@ fn pages_of_the_small_day() {
     for way in WAYS {
         let found = asked.found(way);
         let mut buffer = [77];
-        assert_eq!(found.answer(2, &mut buffer), Outcome { refusal: 0, rows: 1, more: true, next: 3 });
+        assert_eq!(found.answer(2, &mut buffer), Outcome { refusal: 0, rows: 1, more: true, next: 3, unknown: NO_STEP });
         assert_eq!(buffer, [2]);
-        assert_eq!(found.answer(3, &mut []), Outcome { refusal: 0, rows: 0, more: true, next: 3 });
+        assert_eq!(found.answer(3, &mut []), Outcome { refusal: 0, rows: 0, more: true, next: 3, unknown: NO_STEP });
         let mut buffer = [77; 9];
-        assert_eq!(found.answer(9, &mut buffer), Outcome { refusal: 0, rows: 0, more: false, next: 5 });
+        assert_eq!(found.answer(9, &mut buffer), Outcome { refusal: 0, rows: 0, more: false, next: 5, unknown: NO_STEP });
         assert_eq!(buffer, [77; 9]);
     }
 }
@@ -76,7 +81,7 @@ fn evidence_needs_room_for_whole_rows() {
     let asked = Asked::read(&small_day(), b"//call[//board]").unwrap();
     for way in WAYS {
         let mut buffer = [77; 5];
-        assert_eq!(asked.found(way).evidence(1, &mut buffer), Outcome { refusal: 0, rows: 2, more: true, next: 3 });
+        assert_eq!(asked.found(way).evidence(1, &mut buffer), Outcome { refusal: 0, rows: 2, more: true, next: 3, unknown: NO_STEP });
         assert_eq!(buffer, [1, 0, 2, 0, 77]);
     }
 }
@@ -86,7 +91,7 @@ fn indexes_without_records() {
     assert_eq!(check(&[0, 0, 1, 0]), 0);
     let asked = Asked::read(&[0, 0, 1, 0], b"//call").unwrap();
     for way in WAYS {
-        assert_eq!(asked.found(way).answer(0, &mut [77]), Outcome { refusal: 0, rows: 0, more: false, next: 0 });
+        assert_eq!(asked.found(way).answer(0, &mut [77]), Outcome { refusal: 0, rows: 0, more: false, next: 0, unknown: 0 });
     }
     assert_eq!(check(&[0, 0, 2, 0]), 2);
     assert_eq!(check(&[1, 0, 1, 0]), 3);

@@ -11,6 +11,10 @@ pub struct Page {
     pub more: bool,
     /// The position of the first record not written, or, if none remains, the number of labels in the returned step's list.
     pub next: u32,
+    /// The first step whose name has no row in the index, or nothing if each has one. It is counted from 0 in the order of the text, with
+    /// those in brackets, as the positions in a row of evidence are. A question with such a step has no records: look here before saying
+    /// that there are none, since the name may be misspelled. A name whose row has no labels is known.
+    pub unknown: Option<usize>,
 }
 
 /// Whether the index is lawful, and if not, the first reason against it: one of the refusals 1 to 6.
@@ -35,6 +39,10 @@ pub fn check(index: &[u8]) -> Result<(), Refusal> {
 /// // The calls at positions 0 and 1, 1:20 and 4:15; the rest of the buffer stays. The list has five calls.
 /// assert_eq!((page.rows, page.more, page.next), (2, false, 5));
 /// assert_eq!(buffer, [0, 1, 7]);
+///
+/// // A misspelled name gives no records, just as a true "none" does; but the index has no row for the name of step 1.
+/// let page = roadthrum::answer(&index, b"//call[//cancle]", 0, &mut buffer)?;
+/// assert_eq!((page.rows, page.unknown), (0, Some(1)));
 /// # Ok::<(), roadthrum::Refusal>(())
 /// ```
 pub fn answer(index: &[u8], question: &[u8], place: u32, buffer: &mut [u32]) -> Result<Page, Refusal> {
@@ -57,7 +65,8 @@ pub fn evidence(index: &[u8], question: &[u8], place: u32, buffer: &mut [u32]) -
     page(raw::evidence(index, question, place, buffer))
 }
 
-fn page([refusal, rows, more, next]: [u32; 4]) -> Result<Page, Refusal> {
+fn page([refusal, rows, more, next, unknown]: [u32; 5]) -> Result<Page, Refusal> {
     Refusal::unless_zero(refusal)?;
-    Ok(Page { rows: rows as usize, more: more != 0, next })
+    let unknown = (unknown != raw::NO_STEP).then_some(unknown as usize);
+    Ok(Page { rows: rows as usize, more: more != 0, next, unknown })
 }

@@ -17,6 +17,9 @@
 //! # Ok::<(), roadthrum::Refusal>(())
 //! ```
 //!
+//! A misspelled name gives no records, just as a true "none" does. So look at [`Page::unknown`] before saying that there are none: it is
+//! the first step whose name has no row in the index. A walk from page to page has it as well, see [`Pages::unknown`].
+//!
 //! Large answers come page by page, see [`evidence_pages`] and [`answer_pages`]. Each call checks its index first, which costs more the
 //! more records the day has; a page with room for many rows is checked as often as one with room for a few.
 //!

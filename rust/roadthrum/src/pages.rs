@@ -51,7 +51,8 @@ enum Call {
 /// The pages of a question to the last record, each from the place where the page before it ended. The first begins at place 0, or where
 /// [`Pages::starting_at`] says.
 ///
-/// A refusal is given once, and nothing after it. A walk on which no record is left gives no page.
+/// A refusal is given once, and nothing after it. A walk on which no record is left gives no page. Neither does one whose question has a
+/// misspelled name: [`Pages::unknown`] tells the two apart.
 #[derive(Clone, Debug)]
 pub struct Pages<'a> {
     call: Call,
@@ -61,6 +62,8 @@ pub struct Pages<'a> {
     room: usize,
     /// Where the next page begins, or nothing when the walk has ended.
     place: Option<u32>,
+    /// What the last page said of the first unknown step, or the refusal in its place; nothing before the first page.
+    unknown: Option<Result<Option<usize>, Refusal>>,
 }
 
 /// The list positions of all returned records, on pages of at most `room` rows. A room of 0 counts as 1.
@@ -106,7 +109,7 @@ const MOST_STEPS: usize = 32;
 impl<'a> Pages<'a> {
     /// A walk from place 0. No page needs more room than the index has labels of 8 bytes.
     fn of(call: Call, index: &'a [u8], question: &'a [u8], width: usize, room: usize) -> Pages<'a> {
-        Pages { call, index, question, width, room: room.clamp(1, 1 + index.len() / 8), place: Some(0) }
+        Pages { call, index, question, width, room: room.clamp(1, 1 + index.len() / 8), place: Some(0), unknown: None }
     }
 
     /// The same walk with its next page at this place: the records of that page and of those after it are the returned ones at list
@@ -145,6 +148,32 @@ impl<'a> Pages<'a> {
     pub fn place(&self) -> Option<u32> {
         self.place
     }
+
+    /// The first step whose name has no row in the index, or nothing if each has one, as in [`Page`](crate::Page). It is the same wherever
+    /// the walk stands and wherever it began. After a page was asked for it costs nothing; before that the library is asked for it, which
+    /// checks the index.
+    ///
+    /// ```
+    /// use roadthrum::{evidence_pages, Refusal};
+    ///
+    /// let index = days::small_day().to_bytes();
+    /// let mut pages = evidence_pages(&index, b"//call[//cancle]", 10);
+    /// assert_eq!(pages.next(), None);
+    /// // No page, but that says nothing of cancellations: the name of step 1 is unknown.
+    /// assert_eq!(pages.unknown(), Ok(Some(1)));
+    ///
+    /// let mut pages = evidence_pages(&index, b"//cancel//board", 10);
+    /// assert_eq!(pages.next(), None);
+    /// // Both names are known, and nobody boards inside a cancellation.
+    /// assert_eq!(pages.unknown(), Ok(None));
+    ///
+    /// // A question that is refused has no steps.
+    /// assert_eq!(evidence_pages(&index, b"//call[]", 10).unknown(), Err(Refusal::NotFollowing));
+    /// ```
+    pub fn unknown(&self) -> Result<Option<usize>, Refusal> {
+        // No room, and a place behind every record, so that none has to be found.
+        self.unknown.unwrap_or_else(|| answer(self.index, self.question, u32::MAX, &mut []).map(|page| page.unknown))
+    }
 }
 
 impl Iterator for Pages<'_> {
@@ -157,7 +186,9 @@ impl Iterator for Pages<'_> {
             Call::Evidence => evidence,
         };
         let mut positions = vec![0; self.room * self.width];
-        let page = match call(self.index, self.question, place, &mut positions) {
+        let given = call(self.index, self.question, place, &mut positions);
+        self.unknown = Some(given.map(|page| page.unknown));
+        let page = match given {
             Ok(page) => page,
             Err(refusal) => return Some(Err(refusal)),
         };

@@ -8,11 +8,14 @@
 //!
 //! let index = days::small_day().to_bytes();
 //! let mut buffer = [7; 2];
-//! assert_eq!(raw::answer(&index, b"//call[//board]", 2, &mut buffer), [0, 2, 0, 5]);
+//! assert_eq!(raw::answer(&index, b"//call[//board]", 2, &mut buffer), [0, 2, 0, 5, 32]);
 //! assert_eq!(buffer, [2, 3]);
-//! assert_eq!(raw::answer(&index, b"/call", 2, &mut buffer), [8, 0, 0, 0]);
+//! assert_eq!(raw::answer(&index, b"/call", 2, &mut buffer), [8, 0, 0, 0, 32]);
 //! assert_eq!(raw::check(b""), 1);
 //! ```
+
+/// What stands in place of a step where each step's name has a row in the index, and on a refusal. Steps go from 0 to at most 31.
+pub const NO_STEP: u32 = 32;
 
 // What a caller owes to each of these is said in include/roadthrum.h. None of them is public, nor is what calls them through a pointer.
 extern "C" {
@@ -26,7 +29,7 @@ extern "C" {
         place: u32,
         rows: *mut u32,
         rows_len: usize,
-        result: *mut [u32; 4],
+        result: *mut [u32; 5],
     );
 
     fn roadthrum_evidence(
@@ -37,7 +40,7 @@ extern "C" {
         place: u32,
         rows: *mut u32,
         rows_len: usize,
-        result: *mut [u32; 4],
+        result: *mut [u32; 5],
     );
 }
 
@@ -47,28 +50,29 @@ pub fn check(index: &[u8]) -> u32 {
     unsafe { roadthrum_check(index.as_ptr(), index.len()) }
 }
 
-/// The answer call. Gives its refusal or 0, the rows written, 1 if a further record remains and else 0, and the next place.
-pub fn answer(index: &[u8], question: &[u8], place: u32, buffer: &mut [u32]) -> [u32; 4] {
+/// The answer call. Gives its refusal or 0, the rows written, 1 if a further record remains and else 0, the next place, and the first step
+/// whose name has no row in the index or [`NO_STEP`].
+pub fn answer(index: &[u8], question: &[u8], place: u32, buffer: &mut [u32]) -> [u32; 5] {
     // SAFETY: this is one of the library's two calls for rows.
     unsafe { numbers(roadthrum_answer, index, question, place, buffer) }
 }
 
-/// The evidence call. Gives the same four numbers.
-pub fn evidence(index: &[u8], question: &[u8], place: u32, buffer: &mut [u32]) -> [u32; 4] {
+/// The evidence call. Gives the same five numbers.
+pub fn evidence(index: &[u8], question: &[u8], place: u32, buffer: &mut [u32]) -> [u32; 5] {
     // SAFETY: this is the other.
     unsafe { numbers(roadthrum_evidence, index, question, place, buffer) }
 }
 
 /// One of the two calls for rows, or any other function of that type.
-type Call = unsafe extern "C" fn(*const u8, usize, *const u8, usize, u32, *mut u32, usize, *mut [u32; 4]);
+type Call = unsafe extern "C" fn(*const u8, usize, *const u8, usize, u32, *mut u32, usize, *mut [u32; 5]);
 
-/// The four numbers that a call gives.
+/// The five numbers that a call gives.
 ///
 /// # Safety
 ///
 /// The call has to be one of the library's two: they read and write only what they are lent.
-unsafe fn numbers(call: Call, index: &[u8], question: &[u8], place: u32, buffer: &mut [u32]) -> [u32; 4] {
-    let mut result = [u32::MAX; 4];
+unsafe fn numbers(call: Call, index: &[u8], question: &[u8], place: u32, buffer: &mut [u32]) -> [u32; 5] {
+    let mut result = [u32::MAX; 5];
     // SAFETY: each pointer and length are those of one slice; the buffer and the result are lent to this call alone, so that they overlap
     // neither each other nor what is read; both are aligned as their types are.
     unsafe {

@@ -90,9 +90,9 @@ fn rows<'a>(entries: &[Entry], bodies: &'a [u8]) -> Vec<Row<'a>> {
     rows
 }
 
-/// The labels of a name of at most 16 bytes; none for a name without a row.
-pub fn find<'a>(rows: &[Row<'a>], name: &[u8]) -> List<'a> {
+/// The labels of a name of at most 16 bytes, of which there may be none; nothing for a name without a row.
+pub fn find<'a>(rows: &[Row<'a>], name: &[u8]) -> Option<List<'a>> {
     let mut field: Field = [0; name::MOST_BYTES];
     field[..name.len()].copy_from_slice(name);
-    rows.iter().find(|row| row.name == field).map_or(&[], |row| row.list)
+    rows.iter().find(|row| row.name == field).map(|row| row.list)
 }

@@ -16,9 +16,10 @@ mod sweep;
 
 use contents::{contents, find, Row};
 use cursors::Step;
+use label::List;
 use pages::{write_page, Shown};
 
-pub use pages::Page;
+pub use pages::{Page, NO_STEP};
 
 /// The number of the first reason for which the index is refused, or 0 for a lawful one.
 pub fn check(index: &[u8]) -> u32 {
@@ -47,10 +48,13 @@ fn checked(index: &[u8]) -> Result<Vec<Row<'_>>, u32> {
     Ok(rows)
 }
 
-/// What both calls do: check the index, read the question, find each step's list, and write a page.
+/// What both calls do: check the index, read the question, find each step's list, and write a page. An unknown name has an empty list.
 fn respond(index: &[u8], text: &[u8], place: u32, shown: Shown, out: &mut [u32]) -> Result<Page, u32> {
     let rows = checked(index)?;
     let question = question::read(text)?;
-    let steps: Vec<Step> = question.steps.iter().map(|step| Step { list: find(&rows, step.name), hangs: step.hangs }).collect();
-    Ok(write_page(&steps, question.returned, place, shown, out))
+    let lists: Vec<Option<List>> = question.steps.iter().map(|step| find(&rows, step.name)).collect();
+    let unknown = lists.iter().position(Option::is_none).map_or(NO_STEP, |step| step as u32);
+    let hanging = question.steps.iter().map(|step| step.hangs);
+    let steps: Vec<Step> = lists.into_iter().zip(hanging).map(|(list, hangs)| Step { list: list.unwrap_or_default(), hangs }).collect();
+    Ok(Page { unknown, ..write_page(&steps, question.returned, place, shown, out) })
 }

@@ -1,6 +1,7 @@
 //! The table of document 01, "A small day", typed from the paper: its rows in its order and in its words, each as one case or several.
 
 use days::{small_day, Day, Label};
+use evaluator::NO_STEP;
 use std::fmt;
 
 pub struct Case {
@@ -21,12 +22,14 @@ pub enum Told {
     Refused(u32),
     /// Accepted or lawful, and no more is said.
     Accepted,
-    /// Positions and rows. Where the row does not say it, whether more remain and the next place follow from the page rule.
+    /// Positions and rows. Where the row does not say it, whether more remain and the next place follow from the page rule. The first step
+    /// whose name has no row is what change request C-16 adds to all of them.
     Gives {
         positions: &'static [u32],
         rows: &'static [&'static [u32]],
         more: bool,
         next: u32,
+        unknown: u32,
     },
 }
 
@@ -85,7 +88,7 @@ fn questions_to_the_small_day() -> Vec<Case> {
         ask("//call//cancel//board", &[], &[], BOARDS),
         ask("//call[//cancel][//cancel]", &[0, 1], &[&[0, 0, 0], &[1, 1, 1]], CALLS),
         ask("//call[//call[//cancel]]//board", &[0], &[&[0, 1, 1, 0]], BOARDS),
-        ask("//lobby", &[], &[], 0),
+        Case::new("//lobby", &small_day(), "//lobby", gives_nothing(0, 0)),
     ]
 }
 
@@ -113,7 +116,7 @@ fn indexes() -> Vec<Case> {
         Case::new(row, &day, "//call", told)
     };
     vec![
-        bytes("bytes 0 0 1 0 as index", &[0, 0, 1, 0], gives(&[], &[], false, 0)),
+        bytes("bytes 0 0 1 0 as index", &[0, 0, 1, 0], gives_nothing(0, 0)),
         bytes(short, &[0, 0, 2, 0], Told::Refused(2)),
         bytes(short, &[1, 0, 1, 0], Told::Refused(3)),
         bytes(short, &[0, 0, 1], Told::Refused(1)),
@@ -191,6 +194,30 @@ fn what_comes_first() -> Vec<Case> {
     cases
 }
 
+/// Change request C-16, typed from its words: the first step whose name has no row, or 32; a row with number 0 is one.
+pub fn unknown_names() -> Vec<Case> {
+    let mut with_alarms = small_day();
+    with_alarms.lists.insert(b"alarm".to_vec(), Vec::new());
+    let ask = |question, next, unknown| Case::new("C-16", &with_alarms, question, gives_nothing(next, unknown));
+    vec![
+        ask("//cancle", 0, 0),
+        ask("//call//cancle", 0, 1),
+        ask("//call[//cancle]", CALLS, 1),
+        ask("//call[//call[//cancle]]//board", BOARDS, 2),
+        ask("//call[//cancel]//bord", 0, 2),
+        // The first of several.
+        ask("//call[//cancle]//bord", 0, 1),
+        ask("//lobby//call[//cancle]", CALLS, 0),
+        // Rows with number 0, alone and before an unknown name.
+        ask("//alarm", 0, 32),
+        ask("//call[//alarm]", CALLS, 32),
+        ask("//call[//alarm]//cancle", 0, 2),
+        // No records, though every name is known.
+        ask("//cancel//board", BOARDS, 32),
+        Case::new("C-16", &with_alarms, "//cancle[", Told::Refused(8)),
+    ]
+}
+
 impl Case {
     /// Place 0 and ample room: 100 rows of 32 steps.
     fn new(row: &'static str, day: &Day, question: &str, told: Told) -> Case {
@@ -199,8 +226,14 @@ impl Case {
     }
 }
 
+/// What is given where each name has a row.
 fn gives(positions: &'static [u32], rows: &'static [&'static [u32]], more: bool, next: u32) -> Told {
-    Told::Gives { positions, rows, more, next }
+    Told::Gives { positions, rows, more, next, unknown: NO_STEP }
+}
+
+/// What is given where there are no records, with the first unknown step.
+fn gives_nothing(next: u32, unknown: u32) -> Told {
+    Told::Gives { positions: &[], rows: &[], more: false, next, unknown }
 }
 
 /// So many labels, each but the first inside the one before.

@@ -2,7 +2,7 @@
 use Prim.Native.Nat.{ℕ, _+_, _≤_, _<_}
 use native.Mathlib.Nat.{eq-or-lt-of-le, le-of-suc-le-suc}
 use native.Mathlib.Omega.{arith}
-use mathlib.Core.Path.{_≡_, refl, sym, ap, subst, _∙_}
+use mathlib.Core.Path.{_≡_, refl, sym, ap, subst, subst₂, _∙_}
 use mathlib.Core.Logic.{_⊎_, inl, inr, _≢_, ⊎-elim}
 use mathlib.Core.List.{List}
 use lib.ListN.{set, replicate, length-set}
@@ -154,15 +154,15 @@ module _ (b : List ℕ) (p : Path) (s : ℕ) (hangs offsets counts : List ℕ) (
       }
 
   -- One step more, whose name is unknown.
-  pub draw-unknown : (first : ℕ) → Finds b (stepAt p s .name) Unknown → FirstOf unknown s first → Drawing b p (s + 1) (set hangs s hook) offsets counts first
-  draw-unknown first no-row e =
+  pub draw-unknown : (u t first : ℕ) → Finds b (stepAt p s .name) Unknown → u ≡ unknown → t ≡ s → FirstOf u t first → Drawing b p (s + 1) (set hangs s hook) offsets counts first
+  draw-unknown u t first no-row found here f =
       let none = unknown-list b (stepAt p s .name) no-row in
       record {
         s-le = omega arith;
         hangs-are = column-on _ s hook hangs (w .hangs-are) m h;
         offsets-are = column-skip _ s offsets (w .offsets-are) (ap (λ (z : Body). z .offset) none);
         counts-are = column-skip _ s counts (w .counts-are) (ap (λ (z : Body). z .count) none);
-        told = first-here (omega arith) (w .told) no-row e;
+        told = first-here (omega arith) (w .told) no-row (subst₂ (λ (x y : ℕ). FirstOf x y first) found here f);
       }
 
 -- All steps are in the arrays.

@@ -26,7 +26,7 @@ use Rattle.meaning.proofs.Laws.Table.{checked-lawful, clear-both}
 use Rattle.meaning.specs.Fit.{Fit}
 use Rattle.meaning.proofs.Laws.Day.{lawful-fit}
 use Rattle.meaning.proofs.Decide.Day.{checkOf, check-agrees}
-use Rattle.meaning.proofs.Decide.Unknown.{noRowB, hereB, firstB, unknownB, unknown-decides}
+use Rattle.meaning.proofs.Decide.Unknown.{noRowB, firstOf, unknownOf, unknown-decides}
 use Rattle.meaning.proofs.Decide.Picks.{choose, edgeB, hungB, pickB, somePick, returnedB, undercutB, evidenceB, evidence-decides}
 use Rattle.meaning.proofs.Laws.Record.{filtered, recordsOf, records-of}
 use Rattle.meaning.proofs.Cases.{Room, ample, just, Asking, Case, ask, check, empty, IsRoom, joined, resultOf, over, AskRight, Right, All}
@@ -96,7 +96,7 @@ unfoldable pub writtenB : Asking → Bool
 writtenB c = same (write (c .tree) []) (c .text) && (namedB (c .tree) && (leb (length (c .text)) mostText && (leb (steps (c .tree)) mostSteps && leb (depth (c .tree)) mostDepth)))
 
 unfoldable pub askB : Asking → Bool
-askB c = elim (eqb (checkOf (c .index)) 0) [ true ↦ writtenB c && (unknownB (c .index) (c .tree) (c .unknown) && listedB c (allOf c)) | false ↦ false ]
+askB c = elim (eqb (checkOf (c .index)) 0) [ true ↦ writtenB c && (eqb (unknownOf (c .index) (c .tree)) (c .unknown) && listedB c (allOf c)) | false ↦ false ]
 
 listed-decides : (c : Asking) → Fit (asked (c .index) (c .tree)) → (all : List ℕ) → Decides (Listed c all) (listedB c all)
 unfolding listedB
@@ -184,7 +184,7 @@ ask-sound c t = let f = passed (ask-decides c) t in ask-right c (f .0) (f .1 .0)
 
 -- The test of a case. Whoever unfolds it unfolds all that it computes with.
 unfoldable pub rightB : Case → Bool
-unfolding checkOf u32At labels listAmong initial further allFurther short isName same write steps depth list lastStep asked each some choose edgeB hungB pickB somePick returnedB undercutB evidenceB filtered recordsOf namedB noRowB hereB firstB unknownB eachB listedB writtenB askB
+unfolding checkOf u32At labels listAmong initial further allFurther short isName same write steps depth list lastStep asked each some choose edgeB hungB pickB somePick returnedB undercutB evidenceB filtered recordsOf namedB noRowB firstOf unknownOf eachB listedB writtenB askB
 rightB (ask c) = askB c
 rightB (check b n) = eqb (checkOf b) n
 rightB (empty b) = eqb (checkOf b) 0 && eqb (total b) 0

@@ -1,19 +1,22 @@
--- Which step is the first whose name no row has, as a test that antt computes.
-use Prim.Native.Nat.{ℕ, _<_}
-use mathlib.Core.Path.{_≡_, refl, sym, subst}
-use mathlib.Core.Logic.{_⊎_, inl, inr}
+-- The first step whose name no row has, as antt computes it.
+use Prim.Native.Nat.{ℕ, zero, suc, _<_}
+use native.Mathlib.Nat.{eq-or-lt-of-le, le-of-suc-le-suc}
+use native.Mathlib.Omega.{arith}
+use mathlib.Core.Path.{subst}
+use mathlib.Core.Logic.{⊎-elim}
 use mathlib.Core.Bool.{Bool, true, false, not}
 use mathlib.Core.List.{List}
-use lib.Dec.{ltb, eqb}
+use lib.Dec.{eqb}
 use Rattle.meaning.specs.declared.Found.the-variants.{Unknown}
-use Rattle.meaning.specs.Answers.{Decides}
+use Rattle.meaning.specs.Answers.{Decides, holds, fails}
 use Rattle.meaning.specs.Names.{filled, same}
 use Rattle.meaning.specs.Day.{tags, nameField, Finds}
 use Rattle.meaning.specs.Notation.{Path, steps}
 use Rattle.meaning.specs.Picks.{stepAt}
 use Rattle.meaning.specs.Pages.{noStep, First, here, nowhere, FirstUnknown}
-use Rattle.meaning.proofs.Decide.{decides-as, lt-decides, eq-decides, not-decides, both-decides, either-decides, each, each-decides, some, some-decides}
+use Rattle.meaning.proofs.Decide.{decides-as, eq-decides, not-decides, some, some-decides}
 use Rattle.meaning.proofs.Laws.Same.{same-decides}
+use Rattle.meaning.proofs.Laws.Found.{first-one}
 
 -- No row has the name.
 unfoldable pub noRowB : List ℕ → List ℕ → Bool
@@ -24,37 +27,31 @@ unfolding noRowB
 no-row-decides b n =
     decides-as (λ h r x. h (r, x .0, x .1)) (λ h x. h (x .0) (x .1, x .2)) (not-decides (some-decides (tags b) (λ r l. same-decides (nameField b r) (filled n))))
 
--- n is the first number below `many` that passes.
-unfoldable pub hereB : ℕ → (ℕ → Bool) → ℕ → Bool
-hereB many f n = elim (ltb n many) [ true ↦ elim (f n) [ true ↦ each n (λ j. not (f j)) | false ↦ false ] | false ↦ false ]
+-- The first number below n that passes, or 32 if none does.
+unfoldable pub firstOf : ℕ → (ℕ → Bool) → ℕ
+firstOf zero f = noStep
+firstOf (suc n) f = elim (some n f) [ true ↦ firstOf n f | false ↦ elim (f n) [ true ↦ n | false ↦ noStep ] ]
 
--- It is, or none passes and n is 32.
-unfoldable pub firstB : ℕ → (ℕ → Bool) → ℕ → Bool
-firstB many f n = elim (hereB many f n) [ true ↦ true | false ↦ elim (eqb n noStep) [ true ↦ each many (λ j. not (f j)) | false ↦ false ] ]
+first-is : {Such : ℕ → Type 0} {f : ℕ → Bool} → ((j : ℕ) → Decides (Such j) (f j)) → (n : ℕ) → First Such n (firstOf n f)
+unfolding firstOf
+first-is d zero = nowhere (λ j l. absurd (omega arith))
+first-is {Such} {f} d (suc n) = go (some-decides n (λ j l. d j)) (d n) (first-is d n)
+  where
+    go : {a b : Bool} {m : ℕ} → Decides ((j : ℕ) × (j < n) × Such j) a → Decides (Such n) b → First Such n m
+        → First Such (suc n) (elim a [ true ↦ m | false ↦ elim b [ true ↦ n | false ↦ noStep ] ])
+    go {m = m} (holds p) e (here l h before) = here {s = m} (omega arith) h before
+    go (holds p) e (nowhere none) = absurd (none (p .0) (p .1) (p .2))
+    go (fails p) (holds h) first = here {s = n} (omega arith) h (λ j l g. p (j, l, g))
+    go (fails p) (fails q) first = nowhere (λ j l g. ⊎-elim (λ e. q (subst Such e g)) (λ k. p (j, k, g)) (eq-or-lt-of-le (le-of-suc-le-suc l)))
 
--- The two ways of being so.
-abbrev Ways : (ℕ → Type 0) → ℕ → ℕ → Type 0
-Ways Such many n = ((n < many) × (Such n × ((j : ℕ) → j < n → Such j → ⊥))) ⊎ ((n ≡ noStep) × ((j : ℕ) → j < many → Such j → ⊥))
+-- The unknown step that a result tells.
+unfoldable pub unknownOf : List ℕ → Path → ℕ
+unknownOf b p = firstOf (steps p) (λ j. noRowB b (stepAt p j .name))
 
-way : {Such : ℕ → Type 0} {many n : ℕ} → First Such many n → Ways Such many n
-way (here l h before) = inl (l, (h, before))
-way (nowhere none) = inr (refl, none)
+unknown-is : (b : List ℕ) (p : Path) → FirstUnknown b p (unknownOf b p)
+unfolding unknownOf
+unknown-is b p = first-is (λ j. no-row-decides b (stepAt p j .name)) (steps p)
 
-by-way : {Such : ℕ → Type 0} {many n : ℕ} → Ways Such many n → First Such many n
-by-way (inl (l, (h, before))) = here l h before
-by-way {Such} {many} (inr (e, none)) = subst (First Such many) (sym e) (nowhere none)
-
-first-decides : {Such : ℕ → Type 0} {f : ℕ → Bool} (many n : ℕ) → ((j : ℕ) → Decides (Such j) (f j)) → Decides (First Such many n) (firstB many f n)
-unfolding hereB firstB
-first-decides many n d =
-    decides-as by-way way
-    (either-decides (both-decides (lt-decides n many) (both-decides (d n) (each-decides n (λ j l. not-decides (d j)))))
-    (both-decides (eq-decides n noStep) (each-decides many (λ j l. not-decides (d j)))))
-
--- s is the unknown step that a result tells.
-unfoldable pub unknownB : List ℕ → Path → ℕ → Bool
-unknownB b p s = firstB (steps p) (λ j. noRowB b (stepAt p j .name)) s
-
-pub unknown-decides : (b : List ℕ) (p : Path) (s : ℕ) → Decides (FirstUnknown b p s) (unknownB b p s)
-unfolding unknownB
-unknown-decides b p s = first-decides (steps p) s (λ j. no-row-decides b (stepAt p j .name))
+-- Since it is one, a step is it exactly if it is equal.
+pub unknown-decides : (b : List ℕ) (p : Path) (s : ℕ) → Decides (FirstUnknown b p s) (eqb (unknownOf b p) s)
+unknown-decides b p s = decides-as (λ e. subst (FirstUnknown b p) e (unknown-is b p)) (λ u. first-one (unknown-is b p) u) (eq-decides (unknownOf b p) s)

@@ -1,21 +1,24 @@
 -- How many steps, records and rows a call can have, and why no refusal is about the number of records.
 use Prim.Native.Nat.{ℕ, _≤_, _<_}
 use native.Mathlib.Omega.{arith}
-use mathlib.Core.Logic.{inl, inr, ⊎-elim}
-use mathlib.Core.List.{List}
+use mathlib.Core.Path.{ap, _≡_, refl}
+use mathlib.Core.Logic.{inl, inr, _≢_, ⊎-elim}
+use mathlib.Core.List.{List, [], _∷_}
 use lib.ListN.{length}
 use Rattle.meaning.specs.declared.Page.{Page}
+use Rattle.meaning.specs.declared.Body.{Body}
 use Rattle.meaning.specs.Limits.{mostLabels, mostSteps}
 use Rattle.meaning.specs.Day.{total}
 use Rattle.meaning.specs.Notation.{Path, Follows, steps}
 use Rattle.meaning.specs.Picks.{Asked, Returned, asked, stepAt}
-use Rattle.meaning.specs.Pages.{In, Records}
+use Rattle.meaning.specs.Pages.{In, Records, noStep, here, nowhere, FirstUnknown}
 use Rattle.meaning.specs.Refusals.{end, row, followed, Clear, Lawful, checkTable, questionTable, callTable}
 use Rattle.meaning.specs.Promises.{Outcome, refused, page}
 use Rattle.meaning.specs.Fit.{Fit}
 use Rattle.meaning.proofs.Decide.{or-not, le-decides}
 use Rattle.meaning.proofs.Laws.Day.{lawful-fit, list-small}
 use Rattle.meaning.proofs.Laws.Record.{ascending-few}
+use Rattle.meaning.proofs.Laws.Found.{unknown-list}
 use Rattle.meaning.proofs.Laws.Table.{clear-first}
 use Rattle.meaning.proofs.Laws.Promise.{kept-without, kept-with}
 
@@ -43,6 +46,15 @@ few-records {b} {text} law f place all rec =
     let fit : Fit a = lawful-fit b (f .tree) law in
     let low : (i : ℕ) → In i all → (0 ≤ i) × (i < a .count (a .returned)) = λ i h. (omega arith, returned-below a fit i (rec .each i h .0)) in
     omega (arith, ascending-few all 0 (a .count (a .returned)) (rec .ascending) low, asked-small b (f .tree) (a .returned), lawful-small b law)
+
+-- Where a step's name is unknown there are no records, from whatever place on.
+pub unknown-empty : (b : List ℕ) (p : Path) (s place : ℕ) (all : List ℕ) → FirstUnknown b p s → s ≢ noStep → Records (asked b p) place all → all ≡ []
+unfolding asked
+unknown-empty b p s place [] u some rec = refl
+unknown-empty b p s place (i ∷ is) (nowhere none) some rec = absurd (some refl)
+unknown-empty b p s place (i ∷ is) (here l no-row before) some rec =
+    let (q, pick, e) = rec .each i (inl refl) .0 in
+    absurd (omega (arith, pick .within s l, ap (λ (z : Body). z .count) (unknown-list b (stepAt p s .name) no-row)))
 
 -- A call writes at most 1,048,576 rows.
 pub few-rows : {Row : Asked → ℕ → List ℕ → Type 0} {room : Asked → ℕ → ℕ} {b text entry exit : List ℕ} {place : ℕ} {r : Page}

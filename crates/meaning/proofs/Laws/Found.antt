@@ -1,21 +1,18 @@
--- Looking up a name. On a lawful day it finds one thing, and that is the name's list. The unknown step that a result tells is one, and where
--- there is such a step there are no records.
+-- Looking up a name. On a lawful day it finds one thing, and that is the name's list. And the unknown step that a result tells is one.
 use Prim.Native.Nat.{ℕ, zero, suc, _≤_, _<_}
 use native.Mathlib.Nat.{eq-or-lt-of-le, le-of-suc-le-suc}
 use native.Mathlib.Omega.{arith}
 use mathlib.Core.Path.{_≡_, refl, sym, ap, subst, _∙_}
-use mathlib.Core.Logic.{inl, inr, _≢_, ⊎-elim}
+use mathlib.Core.Logic.{inl, inr, ⊎-elim}
 use mathlib.Core.Bool.{Bool, true, false, cond}
-use mathlib.Core.List.{List, [], _∷_}
+use mathlib.Core.List.{List}
 use Rattle.meaning.specs.declared.Body.{Body}
 use Rattle.meaning.specs.declared.Found.{Found}
 use Rattle.meaning.specs.declared.Found.the-variants.{Known, Unknown}
 use Rattle.meaning.specs.Answers.{Decides, holds, fails}
 use Rattle.meaning.specs.Names.{filled, Sooner, same}
 use Rattle.meaning.specs.Day.{tags, nameField, rowList, Has, Finds, listAmong, listOf}
-use Rattle.meaning.specs.Notation.{Path}
-use Rattle.meaning.specs.Picks.{asked, stepAt}
-use Rattle.meaning.specs.Pages.{Records, noStep, First, here, nowhere, FirstUnknown}
+use Rattle.meaning.specs.Pages.{First, here, nowhere}
 use Rattle.meaning.specs.Refusals.{Lawful}
 use Rattle.meaning.proofs.Decide.{or-not, lt-decides}
 use Rattle.meaning.proofs.Decide.Names.{sooner-decides}
@@ -36,16 +33,19 @@ module _ (b : List ℕ) (law : Lawful b) where
       ⊎-elim (λ e. subst (λ (m : ℕ). Sooner (nameField b m) (nameField b (suc r))) (sym e) (next-sooner r k))
       (λ m. sooner-on (row-sooner q r m (omega arith)) (next-sooner r k)) (eq-or-lt-of-le (le-of-suc-le-suc l))
 
-  -- So one row at most has a name.
-  pub one-row : (n : List ℕ) (q r : ℕ) → Has b n q → Has b n r → q ≡ r
-  one-row n q r hq hr = ⊎-elim (λ l. absurd (apart q r hq hr l)) (λ m. ⊎-elim (λ l. absurd (apart r q hr hq l)) (λ k. omega arith) (or-not (lt-decides r q))) (or-not (lt-decides q r))
+  -- So no two rows have one name.
+  one-row : (q r : ℕ) → q < tags b → r < tags b → nameField b q ≡ nameField b r → q ≡ r
+  one-row q r l k e = ⊎-elim (λ i. absurd (apart q r i k e)) (λ m. ⊎-elim (λ i. absurd (apart r q i l (sym e))) (λ j. omega arith) (or-not (lt-decides r q))) (or-not (lt-decides q r))
     where
-      apart : (q r : ℕ) → Has b n q → Has b n r → q < r → ⊥
-      apart q r hq hr l = sooner-proper (nameField b r) (subst (λ (f : List ℕ). Sooner f (nameField b r)) (hq .1 ∙ sym (hr .1)) (row-sooner q r l (hr .0)))
+      apart : (q r : ℕ) → q < r → r < tags b → nameField b q ≡ nameField b r → ⊥
+      apart q r i k e = sooner-proper (nameField b r) (subst (λ (f : List ℕ). Sooner f (nameField b r)) e (row-sooner q r i k))
+
+  same-row : (n : List ℕ) (q r : ℕ) → Has b n q → Has b n r → q ≡ r
+  same-row n q r hq hr = one-row q r (omega (arith, hq .0)) (omega (arith, hr .0)) (hq .1 ∙ sym (hr .1))
 
   -- Looking up a name in a lawful day finds one thing.
   pub found-one : (n : List ℕ) (f g : Found) → Finds b n f → Finds b n g → f ≡ g
-  found-one n (Known l) (Known m) (q, hq, d) (r, hr, e) = ap Known (d ∙ ap (rowList b) (one-row n q r hq hr) ∙ sym e)
+  found-one n (Known l) (Known m) (q, hq, d) (r, hr, e) = ap Known (cc (d, e, same-row n q r hq hr))
   found-one n (Known l) Unknown (q, hq, d) no-row = absurd (no-row q hq)
   found-one n Unknown (Known m) no-row (r, hr, e) = absurd (no-row r hr)
   found-one n Unknown Unknown no-row none = refl
@@ -56,12 +56,12 @@ module _ (b : List ℕ) (law : Lawful b) where
   among-known n r (suc m) has l k = go (same (nameField b m) (filled n)) (same-decides (nameField b m) (filled n)) (λ j. among-known n r m has j (omega arith))
     where
       go : (t : Bool) → Decides (nameField b m ≡ filled n) t → (r < m → listAmong b n m ≡ rowList b r) → cond t (rowList b m) (listAmong b n m) ≡ rowList b r
-      go true (holds e) before = ap (rowList b) (one-row n m r (omega arith, e) has)
+      go true (holds e) before = ap (rowList b) (one-row m r (omega arith) (omega (arith, has .0)) (e ∙ sym (has .1)))
       go false (fails d) before = ⊎-elim (λ e. absurd (d (subst (λ (q : ℕ). nameField b q ≡ filled n) e (has .1)))) before (eq-or-lt-of-le (le-of-suc-le-suc l))
 
   -- A known list is the name's.
   pub known-list : (n : List ℕ) (l : Body) → Finds b n (Known l) → l ≡ listOf b n
-  known-list n l (r, has, e) = e ∙ sym (among-known n r (tags b) has (has .0) (omega arith))
+  known-list n l (r, has, e) = e ∙ sym (among-known n r (tags b) has (omega (arith, has .0)) (omega arith))
 
 among-unknown : (b n : List ℕ) → Finds b n Unknown → (m : ℕ) → m ≤ tags b → listAmong b n m ≡ record { offset = 0; count = 0 }
 unfolding listAmong
@@ -83,12 +83,3 @@ first-one (here {s = s} l h before) (here {s = t} k g sooner) =
 first-one (here {s = s} l h before) (nowhere none) = absurd (none s l h)
 first-one (nowhere none) (here {s = t} k g sooner) = absurd (none t k g)
 first-one (nowhere none) (nowhere also) = refl
-
--- Where a step's name is unknown there are no records, from whatever place on.
-pub unknown-empty : (b : List ℕ) (p : Path) (s place : ℕ) (all : List ℕ) → FirstUnknown b p s → s ≢ noStep → Records (asked b p) place all → all ≡ []
-unfolding asked
-unknown-empty b p s place [] u some rec = refl
-unknown-empty b p s place (i ∷ is) (nowhere none) some rec = absurd (some refl)
-unknown-empty b p s place (i ∷ is) (here l no-row before) some rec =
-    let (q, pick, e) = rec .each i (inl refl) .0 in
-    absurd (omega (arith, pick .within s l, ap (λ (z : Body). z .count) (unknown-list b (stepAt p s .name) no-row)))

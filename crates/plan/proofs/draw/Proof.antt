@@ -94,8 +94,8 @@ loop-again : tie.Need-loop-again Inv-loop μ-loop
 loop-again c =
     let i = c .before .before .before .before .before .before .before in
     let f = c .before .before .before in
-    λ a. draw-unknown _ _ _ _ _ _ _ _ (i .before .loop .inv a) (step-lt i a) (small i) (stored i a .hangs) _
-    (found-as _ (f .before .name-of .ensures ∙ stored i a .name) (c .before .enum-told .given .1) (f .find .ensures)) (c .first-of .ensures)
+    λ a. draw-unknown _ _ _ _ _ _ _ _ (i .before .loop .inv a) (step-lt i a) (small i) (stored i a .hangs) _ _ _
+    (found-as _ (f .before .name-of .ensures ∙ stored i a .name) (c .before .enum-told .given .1) (f .find .ensures)) (omega arith) (omega arith) (c .first-of .ensures)
 
 mul-offsets : tie.Need-mul-offsets Inv-loop μ-loop
 mul-offsets c = record { fits = omega (arith, small (turn c)) }

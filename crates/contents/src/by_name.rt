@@ -9,7 +9,8 @@ use crate::rows::tags_of;
 use filled::is_filled;
 use meaning::Found;
 
-// The list of a name, where a row has it: where its body begins, and its number of labels. The rows are looked at from the last to the first.
+// Looks up a name: its list, as where the body begins and its number of labels, or that no row has the name. The rows are looked at from the last
+// to the first.
 pub fn find(index: &[u8], name: &[u8]) -> Found
     requires { ⌜ Lawful (now index) ⌝ }
     ensures { λ r. ⌜ Finds (now (index .entry)) (now (name .entry)) r ⌝ }

@@ -28,12 +28,12 @@ no-row-decides b n =
     decides-as (λ h r x. h (r, x .0, x .1)) (λ h x. h (x .0) (x .1, x .2)) (not-decides (some-decides (tags b) (λ r l. same-decides (nameField b r) (filled n))))
 
 -- The first number below n that passes, or 32 if none does.
-unfoldable pub firstOf : ℕ → (ℕ → Bool) → ℕ
-firstOf zero f = noStep
-firstOf (suc n) f = elim (some n f) [ true ↦ firstOf n f | false ↦ elim (f n) [ true ↦ n | false ↦ noStep ] ]
+unfoldable pub firstPassing : ℕ → (ℕ → Bool) → ℕ
+firstPassing zero f = noStep
+firstPassing (suc n) f = elim (some n f) [ true ↦ firstPassing n f | false ↦ elim (f n) [ true ↦ n | false ↦ noStep ] ]
 
-first-is : {Such : ℕ → Type 0} {f : ℕ → Bool} → ((j : ℕ) → Decides (Such j) (f j)) → (n : ℕ) → First Such n (firstOf n f)
-unfolding firstOf
+first-is : {Such : ℕ → Type 0} {f : ℕ → Bool} → ((j : ℕ) → Decides (Such j) (f j)) → (n : ℕ) → First Such n (firstPassing n f)
+unfolding firstPassing
 first-is d zero = nowhere (λ j l. absurd (omega arith))
 first-is {Such} {f} d (suc n) = go (some-decides n (λ j l. d j)) (d n) (first-is d n)
   where
@@ -46,7 +46,7 @@ first-is {Such} {f} d (suc n) = go (some-decides n (λ j l. d j)) (d n) (first-i
 
 -- The unknown step that a result tells.
 unfoldable pub unknownOf : List ℕ → Path → ℕ
-unknownOf b p = firstOf (steps p) (λ j. noRowB b (stepAt p j .name))
+unknownOf b p = firstPassing (steps p) (λ j. noRowB b (stepAt p j .name))
 
 unknown-is : (b : List ℕ) (p : Path) → FirstUnknown b p (unknownOf b p)
 unfolding unknownOf

@@ -38,6 +38,10 @@ name-short (c ∷ cs) h =
 pub sooner-proper : (x : List ℕ) → Sooner x x → ⊥
 sooner-proper x s = omega (arith, s .less)
 
+-- Where two lists differ in their first bytes, the one with the lesser byte comes first.
+pub sooner-first : (c d : ℕ) (x y : List ℕ) → c < d → Sooner (c ∷ x) (d ∷ y)
+sooner-first c d x y l = record { place = 0; same = λ i h. absurd (omega arith); less = omega arith }
+
 -- What comes before something comes before what is behind that.
 pub sooner-on : {x y z : List ℕ} → Sooner x y → Sooner y z → Sooner x z
 sooner-on {x} {y} {z} p q = ⊎-elim before (λ n. ⊎-elim after (λ m. both (omega arith)) (or-not (lt-decides (q .place) (p .place)))) (or-not (lt-decides (p .place) (q .place)))
@@ -52,10 +56,6 @@ sooner-on {x} {y} {z} p q = ⊎-elim before (λ n. ⊎-elim after (λ m. both (o
     both e =
         let on : getD y (p .place) 0 < getD z (p .place) 0 = subst (λ (k : ℕ). getD y k 0 < getD z k 0) (sym e) (q .less) in
         record { place = p .place; same = λ i h. p .same i h ∙ q .same i (omega arith); less = omega (arith, p .less, on) }
-
--- Where two lists differ in their first bytes, the one with the lesser byte comes first.
-pub sooner-first : (c d : ℕ) (x y : List ℕ) → c < d → Sooner (c ∷ x) (d ∷ y)
-sooner-first c d x y l = record { place = 0; same = λ i h. absurd (omega arith); less = omega arith }
 
 -- A text that does not go on with such a character does not begin with some of them.
 further-stops : (c : ℕ) (cs r s : List ℕ) → allFurther (c ∷ cs) ≡ true → NoFurther r → r ≡ c ∷ cs ++ s → ⊥

@@ -6,7 +6,8 @@ use mathlib.Core.Logic.{⊎-elim}
 use mathlib.Core.Bool.{Bool, true, false, cond}
 use mathlib.Core.List.{List}
 use Rattle.meaning.specs.Names.{filled, same}
-use Rattle.meaning.specs.Day.{tags, nameField, rowList, Has, listAmong, listOf}
+use Rattle.meaning.specs.declared.Found.the-variants.{Unknown}
+use Rattle.meaning.specs.Day.{tags, nameField, rowList, Has, Finds, listAmong, listOf}
 use Rattle.meaning.specs.Refusals.{Lawful}
 use Rattle.meaning.proofs.Decide.{or-not, le-decides}
 use Rattle.contents.specs.Parts.{Placed, InIndex}
@@ -16,6 +17,10 @@ use Rattle.contents.proofs.Placing.{lawful-placed}
 pub none-before : (b n : List ℕ) (left : ℕ) → ((r : ℕ) → left ≤ r → Has b n r → ⊥) → (nameField b (left - 1) ≡ filled n → ⊥) → (r : ℕ) → left - 1 ≤ r → Has b n r → ⊥
 none-before b n left behind d r l has =
     ⊎-elim (λ k. behind r k has) (λ k. let e : r ≡ left - 1 = omega arith in d (subst (λ (q : ℕ). nameField b q ≡ filled n) e (has .1))) (or-not (le-decides left r))
+
+-- Where no row is left to look at, the name is unknown.
+pub none-left : (b n : List ℕ) (left : ℕ) → left ≤ 0 → ((r : ℕ) → left ≤ r → Has b n r → ⊥) → Finds b n Unknown
+none-left b n left l behind = λ r has. behind r (omega arith) has
 
 -- The list of a name among some rows of an index in which every list lies within it does, too.
 among-within : (b n : List ℕ) → Placed b → (m : ℕ) → m ≤ tags b → InIndex b (listAmong b n m)

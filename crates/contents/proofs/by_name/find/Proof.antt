@@ -10,7 +10,7 @@ use Rattle.meaning.specs.Day.{tags, nameField, rowAt, Has}
 use Rattle.meaning.specs.Answers.{Decides}
 use Rattle.meaning.proofs.Decide.{if-true, if-false}
 use Rattle.contents.proofs.Placing.{lawful-placed}
-use Rattle.contents.proofs.FindLaws.{none-before}
+use Rattle.contents.proofs.FindLaws.{none-before, none-left}
 use Rattle.contents.proofs.by_name.find.Statement.{statement}
 use Rattle.contents.proofs.by_name.find.Tie as tie
 
@@ -69,7 +69,7 @@ loop-again c =
     (omega (arith, l .loop .inv .0), none-before (start l .args .index .now) (start l .args .name .now) (l .loop .left) (l .loop .inv .1) d)
 
 returns-2 : tie.Need-returns-2 Inv-loop μ-loop
-returns-2 c = let l = c .before in λ r has. l .loop .inv .1 r (omega arith) has
+returns-2 c = let l = c .before in none-left (start l .args .index .now) (start l .args .name .now) (l .loop .left) (omega arith) (l .loop .inv .1)
 
 pub find-spec : {M : Type 1} → statement M
 find-spec =

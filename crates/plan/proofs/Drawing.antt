@@ -25,7 +25,7 @@ use Rattle.meaning.specs.Fit.{Fit}
 use Rattle.meaning.proofs.Laws.Bytes.{zero-at}
 use Rattle.meaning.proofs.Laws.Day.{lawful-fit, list-small}
 use Rattle.meaning.proofs.Laws.Notation.{one-tree}
-use Rattle.meaning.proofs.Laws.Found.{known-list, unknown-list, first-one}
+use Rattle.meaning.proofs.Laws.Found.{known-list, unknown-list, first-on, first-one}
 use Rattle.meaning.proofs.Laws.Step.{hook-upward}
 use Rattle.meaning.proofs.Laws.Few.{lawful-small}
 use Rattle.contents.proofs.FindLaws.{list-within}
@@ -36,7 +36,7 @@ use Rattle.plan.specs.Drawn.{Column, Drawn, FirstOf, Asks, Draws}
 use Rattle.cursors.proofs.SettleTurns.{hook-from, hook-nothing}
 use Rattle.cursors.proofs.Moves.{set-cases}
 use Rattle.plan.proofs.Agreeing.{Agree}
-use Rattle.plan.proofs.Telling.{first-on, first-here}
+use Rattle.plan.proofs.Telling.{first-here}
 
 -- A hook is found again from its number, if a step's number is below 255.
 hook-again : (h : Hook) → ((u : ℕ) → h ≡ from u → u < 255) → hookOf (hookNumber h) ≡ h
@@ -150,7 +150,7 @@ module _ (b : List ℕ) (p : Path) (s : ℕ) (hangs offsets counts : List ℕ) (
         hangs-are = column-on _ s hook hangs (w .hangs-are) m h;
         offsets-are = column-on _ s (list .offset) offsets (w .offsets-are) m (ap (λ (z : Body). z .offset) e);
         counts-are = column-on _ s (list .count) counts (w .counts-are) m (ap (λ (z : Body). z .count) e);
-        told = first-on (w .told) (λ no-row. no-row (found .0) (found .1));
+        told = first-on (s + 1) refl (w .told) (λ no-row. no-row (found .0) (found .1));
       }
 
   -- One step more, whose name is unknown.

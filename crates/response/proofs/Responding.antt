@@ -7,11 +7,11 @@ use mathlib.Core.Bool.{Bool, true, false}
 use mathlib.Core.List.{List}
 use lib.ListN.{length}
 use Rattle.meaning.specs.declared.Page.{Page}
-use Rattle.meaning.specs.Pages.{Paged, noStep, FirstUnknown}
+use Rattle.meaning.specs.Pages.{Paged, FirstUnknown}
 use Rattle.meaning.specs.Refusals.{Given, Clear, clear, given, Lawful, checkTable, questionTable, callTable}
 use Rattle.meaning.specs.Promises.{Checked, refused, page}
 use Rattle.meaning.proofs.Laws.Table.{given-above, question-rising, given-first, given-after, clear-both}
-use Rattle.meaning.proofs.Laws.Page.{refusal-is}
+use Rattle.meaning.proofs.Laws.Page.{refusalOf, refusal-is}
 use Rattle.meaning.proofs.Laws.Few.{few-steps}
 use Rattle.question.specs.declared.Reading.{Reading}
 use Rattle.question.specs.Promise.{ReadAs}
@@ -22,25 +22,21 @@ use Rattle.pages.specs.RowParts.{PartOf}
 use Rattle.response.specs.Response.{Responds}
 use Rattle.response.proofs.Ending.{answer-page, evidence-page}
 
--- The result of a refusal.
-abbrev pub refusal : ℕ → Page
-refusal n = record { refusal = n; rows = 0; more = false; next = 0; unknown = noStep }
-
 -- A call refuses with the number that its table gives, and changes nothing.
-refuses : (whole : Bool) (b text : List ℕ) (place : ℕ) (entry : List ℕ) (n : ℕ) → Given (callTable b text) n → Responds whole b text place entry entry (refusal n)
+refuses : (whole : Bool) (b text : List ℕ) (place : ℕ) (entry : List ℕ) (n : ℕ) → Given (callTable b text) n → Responds whole b text place entry entry (refusalOf n)
 refuses true b text place entry n g = refused g (refusal-is n entry)
 refuses false b text place entry n g = refused g (refusal-is n entry)
 
 -- The index is refused.
-pub refuse-index : (whole : Bool) (b text : List ℕ) (place : ℕ) (entry : List ℕ) (n : ℕ) (r : Page) → Checked b n → n ≢ 0 → r ≡ refusal n → Responds whole b text place entry entry r
+pub refuse-index : (whole : Bool) (b text : List ℕ) (place : ℕ) (entry : List ℕ) (n : ℕ) (r : Page) → Checked b n → n ≢ 0 → r ≡ refusalOf n → Responds whole b text place entry entry r
 refuse-index whole b text place entry n r (clear c) some e = absurd (some refl)
 refuse-index whole b text place entry n r (given g) some e =
     subst (λ (x : Page). Responds whole b text place entry entry x) (sym e) (refuses whole b text place entry n (given-first (checkTable b) (questionTable text) n g))
 
 -- The question is refused.
-pub refuse-text : (whole : Bool) (b text : List ℕ) (place : ℕ) (entry : List ℕ) (q : Reading) (r : Page) → Lawful b → ReadAs text q → q .refusal ≢ 0 → r ≡ refusal (q .refusal) → Responds whole b text place entry entry r
+pub refuse-text : (whole : Bool) (b text : List ℕ) (place : ℕ) (entry : List ℕ) (q : Reading) (r : Page) → Lawful b → ReadAs text q → q .refusal ≢ 0 → r ≡ refusalOf (q .refusal) → Responds whole b text place entry entry r
 refuse-text whole b text place entry q r law (reading.refused {n} g e) some f =
-    subst (λ (x : Page). Responds whole b text place entry entry x) (sym (f ∙ ap (λ (x : Reading). refusal (x .refusal)) e))
+    subst (λ (x : Page). Responds whole b text place entry entry x) (sym (f ∙ ap (λ (x : Reading). refusalOf (x .refusal)) e))
     (refuses whole b text place entry n (given-after (checkTable b) (questionTable text) n law g))
 refuse-text whole b text place entry q r law (reading.read c f e) some g = absurd (some (ap (λ (x : Reading). x .refusal) e))
 

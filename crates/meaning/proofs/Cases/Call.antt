@@ -10,7 +10,6 @@ use lib.Dec.{T, leb, ltb, eqb}
 use lib.ListN.{length}
 use mir.Facts.{and-yes}
 use Rattle.meaning.specs.Answers.{Decides}
-use Rattle.meaning.specs.declared.Page.{Page}
 use Rattle.meaning.specs.Limits.{mostText, mostSteps, mostDepth}
 use Rattle.meaning.specs.Names.{same}
 use Rattle.meaning.specs.Notation.{Path, write, Named, Follows, steps, depth, TooLong}
@@ -24,7 +23,7 @@ use Rattle.meaning.proofs.Decide.Day.{checkOf, check-agrees}
 use Rattle.meaning.proofs.Decide.Notation.{namedB, named-decides}
 use Rattle.meaning.proofs.Laws.Same.{same-decides}
 use Rattle.meaning.proofs.Laws.Notation.{path-no-stop}
-use Rattle.meaning.proofs.Laws.Page.{refusal-is}
+use Rattle.meaning.proofs.Laws.Page.{refusalOf, refusal-is}
 use Rattle.meaning.proofs.Laws.Table.{checked-lawful, verdict-given, given-first, given-after}
 use Rattle.meaning.proofs.Cases.{Room, ample, just, Asking, IsRoom, joined, resultOf, over, AskRight}
 use Rattle.meaning.proofs.Cases.Test.{askB, ask-sound, rightB}
@@ -44,10 +43,6 @@ pub data Call : Type 0 where
   answers : Asking → List ℕ → List ℕ → Call
   shows : Asking → List ℕ → List ℕ → Call
   refuses : List ℕ → List ℕ → Why → ℕ → Call
-
--- The result of a refusal: its number, 0 rows, no further record, next place 0, unknown step 32.
-abbrev pub refusalOf : ℕ → Page
-refusalOf n = record { refusal = n; rows = 0; more = false; next = 0; unknown = 32 }
 
 -- Both calls refuse with the number, whatever the place, and leave whatever buffer is lent.
 pub record RefuseRight (b text : List ℕ) (n : ℕ) : Type 0 where

@@ -1,9 +1,7 @@
 -- The first step whose name no row has, as antt computes it.
 use Prim.Native.Nat.{ℕ, zero, suc, _<_}
-use native.Mathlib.Nat.{eq-or-lt-of-le, le-of-suc-le-suc}
 use native.Mathlib.Omega.{arith}
 use mathlib.Core.Path.{subst}
-use mathlib.Core.Logic.{⊎-elim}
 use mathlib.Core.Bool.{Bool, true, false, not}
 use mathlib.Core.List.{List}
 use lib.Dec.{eqb}
@@ -13,10 +11,10 @@ use Rattle.meaning.specs.Names.{filled, same}
 use Rattle.meaning.specs.Day.{tags, nameField, Finds}
 use Rattle.meaning.specs.Notation.{Path, steps}
 use Rattle.meaning.specs.Picks.{stepAt}
-use Rattle.meaning.specs.Pages.{noStep, First, here, nowhere, FirstUnknown}
+use Rattle.meaning.specs.Pages.{noStep, First, nowhere, FirstUnknown}
 use Rattle.meaning.proofs.Decide.{decides-as, eq-decides, not-decides, some, some-decides}
 use Rattle.meaning.proofs.Laws.Same.{same-decides}
-use Rattle.meaning.proofs.Laws.Found.{first-one}
+use Rattle.meaning.proofs.Laws.Found.{first-kept, first-new, first-on, first-one}
 
 -- No row has the name.
 unfoldable pub noRowB : List ℕ → List ℕ → Bool
@@ -39,10 +37,9 @@ first-is {Such} {f} d (suc n) = go (some-decides n (λ j l. d j)) (d n) (first-i
   where
     go : {a b : Bool} {m : ℕ} → Decides ((j : ℕ) × (j < n) × Such j) a → Decides (Such n) b → First Such n m
         → First Such (suc n) (elim a [ true ↦ m | false ↦ elim b [ true ↦ n | false ↦ noStep ] ])
-    go {m = m} (holds p) e (here l h before) = here {s = m} (omega arith) h before
-    go (holds p) e (nowhere none) = absurd (none (p .0) (p .1) (p .2))
-    go (fails p) (holds h) first = here {s = n} (omega arith) h (λ j l g. p (j, l, g))
-    go (fails p) (fails q) first = nowhere (λ j l g. ⊎-elim (λ e. q (subst Such e g)) (λ k. p (j, k, g)) (eq-or-lt-of-le (le-of-suc-le-suc l)))
+    go (holds p) e first = first-kept (suc n) (omega arith) first p
+    go (fails p) (holds h) first = first-new (suc n) (omega arith) (λ j l g. p (j, l, g)) h
+    go (fails p) (fails q) first = first-on (suc n) (omega arith) (nowhere (λ j l g. p (j, l, g))) q
 
 -- The unknown step that a result tells.
 unfoldable pub unknownOf : List ℕ → Path → ℕ

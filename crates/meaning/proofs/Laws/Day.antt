@@ -4,19 +4,20 @@ use native.Mathlib.Nat.{eq-or-lt-of-le, le-of-suc-le-suc}
 use native.Mathlib.Omega.{arith}
 use mathlib.Core.Path.{_≡_, refl, sym, ap, subst, subst₂, _∙_}
 use mathlib.Core.Logic.{_⊎_, inl, inr, _≢_, ⊎-elim}
-use mathlib.Core.Bool.{Bool, true, false, cond}
 use mathlib.Core.List.{List}
 use Rattle.meaning.specs.declared.Label.{Label}
 use Rattle.meaning.specs.declared.Body.{Body}
+use Rattle.meaning.specs.declared.Found.{Found}
+use Rattle.meaning.specs.declared.Found.the-variants.{Known, Unknown}
 use Rattle.meaning.specs.Limits.{mostTags}
 use Rattle.meaning.specs.Labels.{Inside, Apart, Place, labelOf, Holds, LawfulLists}
-use Rattle.meaning.specs.Names.{filled, same}
-use Rattle.meaning.specs.Day.{tags, count, labels, total, labelAt, listsOf, nameField, rowList, listAmong, listOf, TooShort, OtherVersion, WrongContents, WrongLength}
+use Rattle.meaning.specs.Day.{tags, count, labels, total, labelAt, listsOf, rowList, Finds, listOf, TooShort, OtherVersion, WrongContents, WrongLength}
 use Rattle.meaning.specs.Notation.{Path}
 use Rattle.meaning.specs.Picks.{asked, stepAt}
 use Rattle.meaning.specs.Fit.{Fit}
 use Rattle.meaning.specs.Refusals.{Lawful}
 use Rattle.meaning.proofs.Decide.{or-not, eq-decides}
+use Rattle.meaning.proofs.Laws.Found.{listIn, list-found}
 use Rattle.meaning.proofs.Laws.Label.{lawful-lists, lawful-ordered, lawful-untangled}
 use Rattle.meaning.proofs.Laws.Step.{returned-lt, hook-upward}
 
@@ -24,19 +25,13 @@ use Rattle.meaning.proofs.Laws.Step.{returned-lt, hook-upward}
 abbrev pub OfRow : List ℕ → ℕ → Body → Type 0
 OfRow b m l = ((r : ℕ) × (r < m) × (l ≡ rowList b r)) ⊎ (l .count ≡ 0)
 
-among : (b n : List ℕ) (m : ℕ) → OfRow b m (listAmong b n m)
-unfolding listAmong
-among b n zero = inr refl
-among b n (suc m) = go (same (nameField b m) (filled n)) (among b n m)
-  where
-    go : (t : Bool) → OfRow b m (listAmong b n m) → OfRow b (suc m) (cond t (rowList b m) (listAmong b n m))
-    go true h = inl (m, omega arith, refl)
-    go false (inl h) = inl (h .0, omega (arith, h .1), h .2)
-    go false (inr h) = inr h
-
 -- The list of a name is that of a row, or has no labels.
 pub list-of-row : (b n : List ℕ) → OfRow b (tags b) (listOf b n)
-list-of-row b n = among b n (tags b)
+list-of-row b n = go (list-found b n)
+  where
+    go : (f : Found) × Finds b n f × (listOf b n ≡ listIn f) → OfRow b (tags b) (listOf b n)
+    go (Known l, (r, has, e), q) = inl (r, has .0, q ∙ e)
+    go (Unknown, no-row, q) = inr (ap (λ (l : Body). l .count) q)
 
 count-within : (b : List ℕ) (m r : ℕ) → r < m → count b r ≤ labels b m
 unfolding labels

@@ -48,8 +48,12 @@ paged-fixed {a} {Row} {place} {room} {entry} {exit} {exit′} {r} {r′} one unk
     buffer : exit ≡ exit′
     buffer = p .buffer ∙ ap (λ (ws : List ℕ). ws ++ drop (length ws) entry) written ∙ sym (q .buffer)
 
--- What a refusal is, in every field: its number, 0 rows, no further record, next place 0, unknown step 32, and the buffer as it was.
-pub refusal-is : (n : ℕ) (entry : List ℕ) → Refused n entry entry (record { refusal = n; rows = 0; more = false; next = 0; unknown = 32 })
+-- The result of a refusal, in every field: its number, 0 rows, no further record, next place 0, unknown step 32.
+abbrev pub refusalOf : ℕ → Page
+refusalOf n = record { refusal = n; rows = 0; more = false; next = 0; unknown = 32 }
+
+-- With the buffer as it was, that is a refusal.
+pub refusal-is : (n : ℕ) (entry : List ℕ) → Refused n entry entry (refusalOf n)
 refusal-is n entry = record { buffer = refl; refusal = refl; rows = refl; more = refl; next = refl; unknown = refl }
 
 -- A refusal fixes its result and the whole buffer.

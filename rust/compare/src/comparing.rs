@@ -45,13 +45,27 @@ fn evaluate(case: &Case, tally: &mut Tally) -> Result<Found, u32> {
     Ok(found)
 }
 
-/// Counts what there is among a question's names: some without a row, some whose row has number 0, or neither.
+/// What there can be among a question's names: some without a row, some whose row has number 0, or neither.
+pub const KINDS_OF_NAMES: [&str; 5] = [
+    "an unknown step",
+    "an unknown step after the first",
+    "an unknown step in a bracket",
+    "no records though every name is known",
+    "a known name without records",
+];
+
+/// Counts which of these there are.
 pub fn count_names(tally: &mut Tally, asked: &Asked, found: &Found) {
-    tally.count("an unknown step", found.unknown.is_some());
-    tally.count("an unknown step after the first", found.unknown.is_some_and(|step| step > 0));
-    tally.count("an unknown step in a bracket", found.unknown.is_some_and(|step| !asked.is_outside_brackets(step)));
-    tally.count("no records though every name is known", found.unknown.is_none() && found.rows.is_empty());
-    tally.count("a known name without records", asked.has_an_empty_row());
+    let seen = [
+        found.unknown.is_some(),
+        found.unknown.is_some_and(|step| step > 0),
+        found.unknown.is_some_and(|step| !asked.is_outside_brackets(step)),
+        found.unknown.is_none() && found.rows.is_empty(),
+        asked.has_an_empty_row(),
+    ];
+    for (kind, seen) in KINDS_OF_NAMES.iter().zip(seen) {
+        tally.count(kind, seen);
+    }
 }
 
 /// Whether there are few enough picks to try all: as many as 12 records and 5 steps have at most.

@@ -14,7 +14,7 @@ mod seeds;
 mod tally;
 
 pub use cases::{large_case, small_case, Case};
-pub use comparing::{compare_case, compare_page, compare_rows, count_names, few_enough};
+pub use comparing::{compare_case, compare_page, compare_rows, count_names, few_enough, KINDS_OF_NAMES};
 pub use damaged_index::damage_labels;
 pub use libraries::{Call, Library, PROVED, TWIN, WRAPPED};
 pub use seeds::Seeds;

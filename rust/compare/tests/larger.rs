@@ -1,6 +1,6 @@
 //! The library beside the second evaluator on days of up to 5,000 records: single pages, all pages in a row, and damaged days.
 
-use compare::{compare_case, compare_rows, count_names, damage_labels, large_case, Case, Seeds, Tally, PROVED};
+use compare::{compare_case, compare_rows, count_names, damage_labels, large_case, Case, Seeds, Tally, KINDS_OF_NAMES, PROVED};
 use days::Seeded;
 use evaluator::{Asked, Found, Row, Way};
 use roadthrum::{answer_pages, evidence_pages, Pages};
@@ -73,13 +73,7 @@ fn larger_days() {
         assert!(seen.of(kind) >= 1_000, "{kind} is hardly seen");
     }
     assert!(seen.of("walks of many pages from a later place") >= 100, "walks from a later place are hardly seen");
-    for kind in [
-        "an unknown step",
-        "an unknown step after the first",
-        "an unknown step in a bracket",
-        "no records though every name is known",
-        "a known name without records",
-    ] {
+    for kind in KINDS_OF_NAMES {
         assert!(seen.of(kind) >= 25, "{kind} is hardly seen");
     }
     for refusal in [5, 6] {

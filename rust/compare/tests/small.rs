@@ -1,6 +1,6 @@
 //! The library beside the first evaluator on small cases, lawful and damaged.
 
-use compare::{compare_case, small_case, Library, Seeds, Tally, PROVED, TWIN, WRAPPED};
+use compare::{compare_case, small_case, Library, Seeds, Tally, KINDS_OF_NAMES, PROVED, TWIN, WRAPPED};
 use evaluator::{Asked, Way};
 
 /// Compares so many cases, and sees that each refusal and each kind of result is among them so many times.
@@ -19,13 +19,7 @@ fn compare_small(library: &Library, cases: u64, each_refusal: u64, each_kind: u6
             assert!(seen.of(&format!("{call}: {kind}")) >= each_kind, "{kind} is hardly seen");
         }
     }
-    for kind in [
-        "an unknown step",
-        "an unknown step after the first",
-        "an unknown step in a bracket",
-        "no records though every name is known",
-        "a known name without records",
-    ] {
+    for kind in KINDS_OF_NAMES {
         assert!(seen.of(kind) >= each_kind, "{kind} is hardly seen");
     }
 }

@@ -1,3 +1,3 @@
--- The laws of parts of the bytes and of `Started`, which callers use, and what a search rests on.
-pub mod PartLaws
+-- That the promise of a search fixes its result, and what a search rests on.
+pub mod Fixed
 pub mod Searching

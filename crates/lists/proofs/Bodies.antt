@@ -6,8 +6,8 @@ use mathlib.Core.List.{List}
 use lib.ListN.{length}
 use Rattle.meaning.specs.Day.{tags, offset, count, labelAt, listsOf}
 use Rattle.meaning.specs.declared.Label.{Label}
+use Rattle.meaning.proofs.Laws.Bytes.{label-part}
 use Rattle.reader.specs.Reading.{labels}
-use Rattle.label.proofs.PartLaws.{label-part}
 use Rattle.contents.specs.Parts.{Placed, rowBody}
 use Rattle.contents.proofs.BodyLaws.{body-length}
 use Rattle.lists.specs.Ordering.{BodyWrong, ListWrong, backward, descent}

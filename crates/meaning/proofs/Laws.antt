@@ -12,7 +12,11 @@ pub mod Evidence
 pub mod Record
 pub mod Page
 pub mod Walk
+pub mod Sum
+pub mod Waits
 pub mod Table
 pub mod Promise
 pub mod Few
+pub mod Traffic
+pub mod Tabled
 pub mod Printing

@@ -1,10 +1,13 @@
--- What every question put to a lawful day is. No promise speaks of it: contracts of inner functions do, so that they need name no byte.
-use Prim.Native.Nat.{ℕ, _<_}
+-- What every question put to a lawful day is, and what the traffic of every lawful day with its times is. No promise speaks of it: contracts of
+-- inner functions do, so that they need name no byte.
+use Prim.Native.Nat.{ℕ, _≤_, _<_}
 use mathlib.Core.Path.{_≡_}
-use mathlib.Core.Logic.{_⊎_}
+use mathlib.Core.Logic.{_⊎_, _≢_}
+use Rattle.meaning.specs.Limits.{mostLabels}
 use Rattle.meaning.specs.Labels.{Inside, Apart}
 use Rattle.meaning.specs.Notation.{from}
 use Rattle.meaning.specs.Picks.{Asked}
+use Rattle.meaning.specs.Waits.{Ending, board, cancel, Traffic}
 
 -- What picks rest on: a step hangs from an earlier one, the returned step is one, the records of each step are ordered and ascend by
 -- start, and the records of two steps are the same one, or one lies inside the other, or they are apart.
@@ -15,3 +18,16 @@ pub record Fit (a : Asked) : Type 0 where
   pub ascending : (s i j : ℕ) → i < j → j < a .count s → a .label s i .start < a .label s j .start
   pub laminar : (s i u j : ℕ) → i < a .count s → j < a .count u
       → (a .label s i ≡ a .label u j) ⊎ Inside (a .label s i) (a .label u j) ⊎ Inside (a .label u j) (a .label s i) ⊎ Apart (a .label s i) (a .label u j)
+
+-- What the waiting table rests on: calls and the records of an ending ascend by start, what starts within a call lies inside it, no boarding
+-- starts where a cancellation does, each start has one of so many entries, and the times of these do not descend.
+pub record Sound (w : Traffic) (entries : ℕ) : Type 0 where
+  pub few : w .calls .count ≤ mostLabels
+  pub calls-ascend : (i j : ℕ) → i < j → j < w .calls .count → w .calls .label i .start < w .calls .label j .start
+  pub ended-ascend : (e : Ending) (i j : ℕ) → i < j → j < w .ended e .count → w .ended e .label i .start < w .ended e .label j .start
+  pub whole : (i : ℕ) (e : Ending) (j : ℕ) → i < w .calls .count → j < w .ended e .count → w .calls .label i .start < w .ended e .label j .start
+      → w .ended e .label j .start < w .calls .label i .end → Inside (w .ended e .label j) (w .calls .label i)
+  pub apart : (j k : ℕ) → j < w .ended board .count → k < w .ended cancel .count → w .ended board .label j .start ≢ w .ended cancel .label k .start
+  pub calls-timed : (i : ℕ) → i < w .calls .count → w .calls .label i .start < entries
+  pub ended-timed : (e : Ending) (j : ℕ) → j < w .ended e .count → w .ended e .label j .start < entries
+  pub forward : (m n : ℕ) → m ≤ n → n < entries → w .time m ≤ w .time n

@@ -7,6 +7,7 @@ pub mod Day
 pub mod Notation
 pub mod Picks
 pub mod Pages
+pub mod Waits
 pub mod Refusals
 pub mod Promises
 pub mod Answers

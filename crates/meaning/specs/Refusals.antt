@@ -5,6 +5,7 @@ use mathlib.Core.Logic.{_⊎_}
 use mathlib.Core.List.{List}
 use Rattle.meaning.specs.Day.{TooShort, OtherVersion, WrongContents, WrongLength, WrongLists, WrongNesting}
 use Rattle.meaning.specs.Notation.{TooLong, NotFollowing, TooLarge}
+use Rattle.meaning.specs.Waits.{NoEntry, TimesDescend}
 
 -- A table of refusals: a number with its reason, and the rows after it.
 pub data Table : Type 1 where
@@ -28,6 +29,14 @@ questionTable text = row 7 (TooLong text) (row 8 (NotFollowing text) (row 9 (Too
 -- The table of the answer call and of the evidence call.
 abbrev pub callTable : List ℕ → List ℕ → Table
 callTable b text = followed (checkTable b) (questionTable text)
+
+-- Rows 20 and 21, which are about the times lent beside an index.
+abbrev pub timesTable : List ℕ → List ℕ → Table
+timesTable b times = row 20 (NoEntry b times) (row 21 (TimesDescend times) end)
+
+-- The table of the waits call.
+abbrev pub waitsTable : List ℕ → List ℕ → Table
+waitsTable b times = followed (checkTable b) (timesTable b times)
 
 -- The number n is given: it is the number of the first row whose reason applies.
 abbrev pub Given : Table → ℕ → Type 0

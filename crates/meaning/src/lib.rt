@@ -28,6 +28,22 @@ impl Page {
     }
 }
 
+// The waiting table of a day. A refusal has its number, and all figures are 0.
+pub struct Figures {
+    // The number of the refusal table, or 0.
+    pub refusal: u32,
+    // How many calls there are, and how many of them were boarded, were cancelled, and are open.
+    pub calls: u64,
+    pub boarded: u64,
+    pub cancelled: u64,
+    pub left_open: u64,
+    // The wait of all boarded and cancelled calls together, and the longest of these waits, in milliseconds.
+    pub total: u64,
+    pub longest: u64,
+    // Over how many calls the total is: the mean is the one divided by the other.
+    pub over: u64,
+}
+
 // A label: the numbers at which a record starts and ends.
 pub struct Label {
     pub start: u32,

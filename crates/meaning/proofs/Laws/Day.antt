@@ -57,14 +57,14 @@ place-≡ x y p q = λ i. record { list = p i; at = q i }
 
 -- Label i of a list that is a row's, as a label of the day.
 module _ (b : List ℕ) where
-  abbrev at-list : Body → ℕ → Label
+  abbrev pub at-list : Body → ℕ → Label
   at-list l i = labelAt b (l .offset) i
 
   -- A label of a list stands at a place of the day.
-  abbrev Placed : Body → ℕ → Type 0
+  abbrev pub Placed : Body → ℕ → Type 0
   Placed l i = (x : Place) × Holds (listsOf b) x × (labelOf (listsOf b) x ≡ at-list l i)
 
-  placed : (l : Body) (i : ℕ) → OfRow b (tags b) l → i < l .count → Placed l i
+  pub placed : (l : Body) (i : ℕ) → OfRow b (tags b) l → i < l .count → Placed l i
   placed l i (inl (r, r-lt, e)) il =
       (record { list = r; at = i }, record { list-lt = r-lt; at-lt = subst (λ (m : Body). i < m .count) e il }, ap (λ (m : Body). at-list m i) (sym e))
   placed l i (inr e) il = absurd (omega arith)
@@ -76,10 +76,10 @@ module _ (b : List ℕ) where
       equal m n = or-not (eq-decides m n)
 
   module _ (law : LawfulLists (listsOf b)) (l : Body) (of-l : OfRow b (tags b) l) where
-    list-ordered : (i : ℕ) → i < l .count → at-list l i .start < at-list l i .end
+    pub list-ordered : (i : ℕ) → i < l .count → at-list l i .start < at-list l i .end
     list-ordered i il = let p = placed l i of-l il in subst (λ (z : Label). z .start < z .end) (p .2) (law .ordered (p .0) (p .1))
 
-    list-ascending : (i j : ℕ) → i < j → j < l .count → at-list l i .start < at-list l j .start
+    pub list-ascending : (i j : ℕ) → i < j → j < l .count → at-list l i .start < at-list l j .start
     list-ascending i j ij jl = go of-l
       where
         go : OfRow b (tags b) l → at-list l i .start < at-list l j .start
@@ -87,7 +87,7 @@ module _ (b : List ℕ) where
             subst (λ (m : Body). at-list m i .start < at-list m j .start) (sym e) (law .ascending r i j r-lt ij (subst (λ (m : Body). j < m .count) e jl))
         go (inr e) = absurd (omega arith)
 
-    list-laminar : (m : Body) → OfRow b (tags b) m → (i j : ℕ) → i < l .count → j < m .count
+    pub list-laminar : (m : Body) → OfRow b (tags b) m → (i j : ℕ) → i < l .count → j < m .count
         → (at-list l i ≡ at-list m j) ⊎ Inside (at-list l i) (at-list m j) ⊎ Inside (at-list m j) (at-list l i) ⊎ Apart (at-list l i) (at-list m j)
     list-laminar m of-m i j il jm = go (placed l i of-l il) (placed m j of-m jm)
       where

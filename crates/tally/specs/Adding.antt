@@ -1,0 +1,43 @@
+-- What a call adds to the figures.
+use Prim.Native.Nat.{ℕ, _+_, _*_, _-_, _≤_, _<_, max}
+use mathlib.Core.List.{List}
+use lib.ListN.{length}
+use Rattle.meaning.specs.declared.Figures.{Figures}
+use Rattle.meaning.specs.Limits.{mostLabels}
+use Rattle.meaning.specs.Bytes.{at}
+use Rattle.meaning.specs.Waits.{Ending, board, cancel, ofEnding}
+use Rattle.tally.specs.declared.Outcome.{Outcome}
+use Rattle.tally.specs.declared.Outcome.the-variants.{Boarded, Cancelled, Open}
+
+-- The figures are those of so few calls that one more can be added.
+pub record Small (f : Figures) : Type 0 where
+  pub calls : f .calls ≤ mostLabels
+  pub boarded : f .boarded ≤ mostLabels
+  pub cancelled : f .cancelled ≤ mostLabels
+  pub left-open : f .left_open ≤ mostLabels
+  pub over : f .over ≤ mostLabels
+  pub total : f .total ≤ mostLabels * 4_294_967_295
+
+-- The call's start and the number at which its wait ends have entries, and the wait is not negative.
+abbrev pub WaitTimed : List ℕ → ℕ → ℕ → Type 0
+WaitTimed times start until = (start < length times) × (until < length times) × (at times start ≤ at times until)
+
+-- So it is for the outcome, where there is a wait.
+abbrev pub Timed : List ℕ → ℕ → Outcome → Type 0
+Timed times start (Boarded until) = WaitTimed times start until
+Timed times start (Cancelled until) = WaitTimed times start until
+Timed times start Open = Unit
+
+-- The figures with one call more that has waited for d, but for how it ended.
+abbrev pub waitedFor : ℕ → Figures → Figures
+waitedFor d f =
+    record { refusal = f .refusal; calls = f .calls + 1; boarded = f .boarded; cancelled = f .cancelled; left_open = f .left_open; total = f .total + d; longest = max (f .longest) d; over = f .over + 1 }
+
+-- The figures with one call more that starts at a number, by its outcome.
+abbrev pub added : (ℕ → ℕ) → ℕ → Figures → Outcome → Figures
+added time start f (Boarded until) = let g : Figures = waitedFor (time until - time start) f in
+    record { refusal = g .refusal; calls = g .calls; boarded = g .boarded + 1; cancelled = g .cancelled; left_open = g .left_open; total = g .total; longest = g .longest; over = g .over }
+added time start f (Cancelled until) = let g : Figures = waitedFor (time until - time start) f in
+    record { refusal = g .refusal; calls = g .calls; boarded = g .boarded; cancelled = g .cancelled + 1; left_open = g .left_open; total = g .total; longest = g .longest; over = g .over }
+added time start f Open =
+    record { refusal = f .refusal; calls = f .calls + 1; boarded = f .boarded; cancelled = f .cancelled; left_open = f .left_open + 1; total = f .total; longest = f .longest; over = f .over }

@@ -1,0 +1,3 @@
+-- What the parts of the tally promise.
+pub mod Sights
+pub mod Adding

@@ -1,0 +1,2 @@
+-- What the looks at the entries rest on.
+pub mod Looking

@@ -1,0 +1,2 @@
+-- What the looks at the entries find.
+pub mod Entries

@@ -19,12 +19,13 @@ pub record Fit (a : Asked) : Type 0 where
   pub laminar : (s i u j : ℕ) → i < a .count s → j < a .count u
       → (a .label s i ≡ a .label u j) ⊎ Inside (a .label s i) (a .label u j) ⊎ Inside (a .label u j) (a .label s i) ⊎ Apart (a .label s i) (a .label u j)
 
--- What the waiting table rests on: calls and the records of an ending ascend by start, what starts within a call lies inside it, no boarding
--- starts where a cancellation does, each start has one of so many entries, and the times of these do not descend.
+-- What the waiting table rests on: calls and the records of an ending ascend by start, what ends a wait is ordered and lies inside a call within
+-- which it starts, no boarding starts where a cancellation does, each start has one of so many entries, and the times of these do not descend.
 pub record Sound (w : Traffic) (entries : ℕ) : Type 0 where
   pub few : w .calls .count ≤ mostLabels
   pub calls-ascend : (i j : ℕ) → i < j → j < w .calls .count → w .calls .label i .start < w .calls .label j .start
   pub ended-ascend : (e : Ending) (i j : ℕ) → i < j → j < w .ended e .count → w .ended e .label i .start < w .ended e .label j .start
+  pub ended-ordered : (e : Ending) (j : ℕ) → j < w .ended e .count → w .ended e .label j .start < w .ended e .label j .end
   pub whole : (i : ℕ) (e : Ending) (j : ℕ) → i < w .calls .count → j < w .ended e .count → w .calls .label i .start < w .ended e .label j .start
       → w .ended e .label j .start < w .calls .label i .end → Inside (w .ended e .label j) (w .calls .label i)
   pub apart : (j k : ℕ) → j < w .ended board .count → k < w .ended cancel .count → w .ended board .label j .start ≢ w .ended cancel .label k .start

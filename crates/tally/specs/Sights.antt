@@ -11,13 +11,14 @@ use Rattle.tally.specs.declared.Sight.{Sight}
 use Rattle.tally.specs.declared.Outcome.{Outcome}
 use Rattle.tally.specs.declared.Outcome.the-variants.{Boarded, Cancelled, Open as Neither}
 
--- What starts within a call lies inside it.
-abbrev pub Whole : Tagged → Label → Type 0
-Whole t c = (j : ℕ) → j < t .count → c .start < t .label j .start → t .label j .start < c .end → Inside (t .label j) c
+-- Records are ordered, and what starts within a call lies inside it.
+pub record Whole (t : Tagged) (c : Label) : Type 0 where
+  pub ordered : (j : ℕ) → j < t .count → t .label j .start < t .label j .end
+  pub inside : (j : ℕ) → j < t .count → c .start < t .label j .start → t .label j .start < c .end → Inside (t .label j) c
 
 -- Where the first record that lies inside a call starts, or the call's end if there is none.
 pub data FirstStart (t : Tagged) (c : Label) (s : ℕ) : Type 0 where
-  inside : (j : ℕ) → j < t .count → Inside (t .label j) c → s ≡ t .label j .start → ((k : ℕ) → k < t .count → Inside (t .label k) c → s ≤ t .label k .start) → FirstStart t c s
+  first : (j : ℕ) → j < t .count → Inside (t .label j) c → s ≡ t .label j .start → s < c .end → ((k : ℕ) → k < t .count → Inside (t .label k) c → s ≤ t .label k .start) → FirstStart t c s
   nothing : ((k : ℕ) → k < t .count → Inside (t .label k) c → ⊥) → s ≡ c .end → FirstStart t c s
 
 -- What a look finds: how many records start at or before the call's start, and where the first inside it starts.

@@ -8,7 +8,7 @@ ghost use Rattle.meaning.specs.Waits.{inBody, trafficOf, Figured, noFigures};
 ghost use Rattle.meaning.specs.Fit.{Sound};
 ghost use Rattle.label.specs.Started.{Ascends, Between};
 ghost use Rattle.tally.specs.Sights.{Whole, Sees, Decided};
-ghost use Rattle.tally.specs.Adding.{Small, Timed, waitedFor, added};
+ghost use Rattle.tally.specs.Adding.{Small, WaitTimed, Timed, waitedFor, added};
 use meaning::Figures;
 use meaning::Label;
 
@@ -77,12 +77,20 @@ fn longer(one: u64, other: u64) -> u64
     one
 }
 
+// The time from one to another that is no sooner, in 64 bits.
+fn elapsed(from: u32, to: u32) -> u64
+    requires { ⌜ from ≤ to ⌝ }
+    ensures { λ r. ⌜ (r ≡ to - from) × (r ≤ 4294967295) ⌝ }
+{
+    (to - from) as u64
+}
+
 // The wait from a call's start to the number at which it ends.
 fn wait(times: &[u32], start: u32, until: u32) -> u64
-    requires { ⌜ (start < length (now times)) × (until < length (now times)) × (at (now times) start ≤ at (now times) until) ⌝ }
+    requires { ⌜ WaitTimed (now times) start until ⌝ }
     ensures { λ r. ⌜ (r ≡ at (now (times .entry)) until - at (now (times .entry)) start) × (r ≤ 4294967295) ⌝ }
 {
-    (times[until as usize] - times[start as usize]) as u64
+    elapsed(times[start as usize], times[until as usize])
 }
 
 // The figures with one call more that has waited: what a boarded call and a cancelled call add alike.

@@ -49,20 +49,20 @@ module _ (b : List ℕ) (law : Lawful b) where
       subst₂ (λ (x y : Label). x .start < y .start) (sym (of-list b n i (omega arith))) (sym (of-list b n j jl))
       (list-ascending b (lawful-index b law) (listOf b n) (list-of-row b n) i j ij (within-list b n j jl))
 
+  body-ordered : (n : List ℕ) (i : ℕ) → i < many b n → mine b n i .start < mine b n i .end
+  body-ordered n i il = subst (λ (x : Label). x .start < x .end) (sym (of-list b n i il)) (list-ordered b (lawful-index b law) (listOf b n) (list-of-row b n) i (within-list b n i il))
+
   -- What starts within a record of another body lies inside it.
   body-whole : (n m : List ℕ) (i j : ℕ) → i < many b n → j < many b m → mine b n i .start < mine b m j .start → mine b m j .start < mine b n i .end → Inside (mine b m j) (mine b n i)
   body-whole n m i j il jl after before =
       go (subst₂ (λ (x y : Label). (x ≡ y) ⊎ Inside x y ⊎ Inside y x ⊎ Apart x y) (sym (of-list b m j jl)) (sym (of-list b n i il))
       (list-laminar b (lawful-index b law) (listOf b m) (list-of-row b m) (listOf b n) (list-of-row b n) j i (within-list b m j jl) (within-list b n i il)))
     where
-      ordered : mine b m j .start < mine b m j .end
-      ordered = subst (λ (x : Label). x .start < x .end) (sym (of-list b m j jl)) (list-ordered b (lawful-index b law) (listOf b m) (list-of-row b m) j (within-list b m j jl))
-
       go : (mine b m j ≡ mine b n i) ⊎ Inside (mine b m j) (mine b n i) ⊎ Inside (mine b n i) (mine b m j) ⊎ Apart (mine b m j) (mine b n i) → Inside (mine b m j) (mine b n i)
       go (inl e) = absurd (omega (arith, ap (λ (x : Label). x .start) e))
       go (inr (inl h)) = h
       go (inr (inr (inl h))) = absurd (omega (arith, h .after))
-      go (inr (inr (inr (inl h)))) = absurd (omega (arith, ordered))
+      go (inr (inr (inr (inl h)))) = absurd (omega (arith, body-ordered m j jl))
       go (inr (inr (inr (inr h)))) = absurd (omega arith)
 
   -- Records of two names start at different numbers: they stand in two rows.
@@ -102,6 +102,7 @@ clear-sound b times c = record {
   few = few-labels b callName law;
   calls-ascend = body-ascends b law callName;
   ended-ascend = ascend;
+  ended-ordered = ordered;
   whole = whole;
   apart = body-apart b law boardName cancelName (λ e. omega (arith, ap (λ (l : List ℕ). at l 0) e));
   calls-timed = body-timed b law times (clear-after (checkTable b) (timesTable b times) c .0) callName;
@@ -115,6 +116,10 @@ clear-sound b times c = record {
     ascend : (e : Ending) (i j : ℕ) → i < j → j < traffic b times .ended e .count → traffic b times .ended e .label i .start < traffic b times .ended e .label j .start
     ascend board = body-ascends b law boardName
     ascend cancel = body-ascends b law cancelName
+
+    ordered : (e : Ending) (j : ℕ) → j < traffic b times .ended e .count → traffic b times .ended e .label j .start < traffic b times .ended e .label j .end
+    ordered board = body-ordered b law boardName
+    ordered cancel = body-ordered b law cancelName
 
     whole : (i : ℕ) (e : Ending) (j : ℕ) → i < traffic b times .calls .count → j < traffic b times .ended e .count → traffic b times .calls .label i .start < traffic b times .ended e .label j .start
         → traffic b times .ended e .label j .start < traffic b times .calls .label i .end → Inside (traffic b times .ended e .label j) (traffic b times .calls .label i)

@@ -10,6 +10,12 @@ use Rattle.meaning.specs.Fit.{Sound}
 use Rattle.meaning.proofs.Decide.{or-not, le-decides}
 use Rattle.meaning.proofs.Laws.Sum.{OneEach, ones, sum-one, sum-parts, sum-kept, sum-more, number-all, longest-one, longest-kept, longest-more}
 
+-- Figures that are equal field by field are equal.
+pub figures-≡ : {f g : Figures} → f .refusal ≡ g .refusal → f .calls ≡ g .calls → f .boarded ≡ g .boarded → f .cancelled ≡ g .cancelled → f .left_open ≡ g .left_open
+    → f .total ≡ g .total → f .longest ≡ g .longest → f .over ≡ g .over → f ≡ g
+figures-≡ refusal calls boarded cancelled left total longest over =
+    λ k. record { refusal = refusal k; calls = calls k; boarded = boarded k; cancelled = cancelled k; left_open = left k; total = total k; longest = longest k; over = over k }
+
 module _ (w : Traffic) where
   -- Records that end one call's wait start at one number.
   pub ends-one : {i j k : ℕ} {e f : Ending} → Ends w i e j → Ends w i f k → w .ended e .label j .start ≡ w .ended f .label k .start
@@ -21,16 +27,10 @@ module _ (w : Traffic) where
 
   -- The figures are one, field by field.
   pub figured-one : {n : ℕ} {f g : Figures} → Figured w n f → Figured w n g → f ≡ g
-  figured-one x y = λ k. record {
-    refusal = (x .refusal ∙ sym (y .refusal)) k;
-    calls = (x .calls ∙ sym (y .calls)) k;
-    boarded = sum-one (ones (Ended w board)) (x .boarded) (y .boarded) k;
-    cancelled = sum-one (ones (Ended w cancel)) (x .cancelled) (y .cancelled) k;
-    left_open = sum-one (ones (Open w)) (x .left-open) (y .left-open) k;
-    total = sum-one waited-one (x .total) (y .total) k;
-    longest = longest-one (x .longest) (y .longest) k;
-    over = sum-one (ones (λ i. Ended w board i ⊎ Ended w cancel i)) (x .over) (y .over) k;
-  }
+  figured-one x y =
+      figures-≡ (x .refusal ∙ sym (y .refusal)) (x .calls ∙ sym (y .calls)) (sum-one (ones (Ended w board)) (x .boarded) (y .boarded)) (sum-one (ones (Ended w cancel)) (x .cancelled) (y .cancelled))
+      (sum-one (ones (Open w)) (x .left-open) (y .left-open)) (sum-one waited-one (x .total) (y .total)) (longest-one (x .longest) (y .longest))
+      (sum-one (ones (λ i. Ended w board i ⊎ Ended w cancel i)) (x .over) (y .over))
 
   -- The figures of no calls.
   pub figured-none : Figured w 0 (noFigures 0)

@@ -1,0 +1,69 @@
+-- What one call more makes of the figures, by what becomes of it.
+use Prim.Native.Nat.{ℕ, _+_, _*_, _-_, _≤_, _<_, max}
+use native.Mathlib.Omega.{arith}
+use mathlib.Core.Path.{_≡_, refl, sym, ap, _∙_}
+use mathlib.Core.Logic.{_⊎_, inl, inr, ⊎-elim}
+use mathlib.Core.List.{List}
+use lib.ListN.{length}
+use Rattle.meaning.specs.declared.Figures.{Figures}
+use Rattle.meaning.specs.Limits.{mostLabels}
+use Rattle.meaning.specs.Bytes.{at}
+use Rattle.meaning.specs.Waits.{Ending, board, cancel, Traffic, trafficOf, Ends, Figured}
+use Rattle.meaning.specs.Fit.{Sound}
+use Rattle.meaning.proofs.Decide.{or-not, le-decides}
+use Rattle.meaning.proofs.Laws.Sum.{number-within}
+use Rattle.meaning.proofs.Laws.Waits.{waits-forward, figured-ended, figured-open}
+use Rattle.tally.specs.declared.Outcome.{Outcome}
+use Rattle.tally.specs.declared.Outcome.the-variants.{Boarded, Cancelled, Open}
+use Rattle.tally.specs.Sights.{Becomes}
+use Rattle.tally.specs.Adding.{Small, WaitTimed, Timed, waitedFor, oneBoarded, oneCancelled, oneOpen, added}
+
+-- Figures of no more calls than a day can have are small.
+pub figured-small : {w : Traffic} {n : ℕ} {f : Figures} → Figured w n f → n ≤ mostLabels → f .total ≤ n * 4_294_967_295 → Small f
+figured-small x few total = record {
+  calls = omega (arith, x .calls);
+  boarded = omega (arith, number-within (x .boarded));
+  cancelled = omega (arith, number-within (x .cancelled));
+  left-open = omega (arith, number-within (x .left-open));
+  over = omega (arith, number-within (x .over));
+  total = omega arith;
+}
+
+-- What is put together of the parts is what the call adds, by its outcome.
+module _ (time : ℕ → ℕ) (start : ℕ) (f : Figures) (o : Outcome) where
+  pub added-boarded : {u d : ℕ} {g : Figures} → o ≡ Boarded u → d ≡ time u - time start → g ≡ waitedFor d f → oneBoarded g ≡ added time start f o
+  added-boarded e wait is = ap oneBoarded (is ∙ ap (λ (k : ℕ). waitedFor k f) wait) ∙ sym (ap (added time start f) e)
+
+  pub added-cancelled : {u d : ℕ} {g : Figures} → o ≡ Cancelled u → d ≡ time u - time start → g ≡ waitedFor d f → oneCancelled g ≡ added time start f o
+  added-cancelled e wait is = ap oneCancelled (is ∙ ap (λ (k : ℕ). waitedFor k f) wait) ∙ sym (ap (added time start f) e)
+
+  pub added-open : o ≡ Open → oneOpen f ≡ added time start f o
+  added-open e = sym (ap (added time start f) e)
+
+-- The longer of two is at least each, and one of them.
+max-is : (m n : ℕ) → (max m n ≡ m) ⊎ (max m n ≡ n)
+max-is m n = ⊎-elim (λ l. inr (omega arith)) (λ l. inl (omega arith)) (or-not (le-decides m n))
+
+module _ (calls boards cancels times : List ℕ) (sound : Sound (trafficOf calls boards cancels times) (length times)) (i : ℕ) where
+  abbrev w : Traffic
+  w = trafficOf calls boards cancels times
+
+  -- The wait of a call that a record ends has its times.
+  ends-timed : i < w .calls .count → (e : Ending) (j s : ℕ) → Ends w i e j → s ≡ w .ended e .label j .start → WaitTimed times (w .calls .label i .start) s
+  ends-timed l e j s x is =
+      (sound .calls-timed i l, omega (arith, is, sound .ended-timed e j (x .within .is)), omega (arith, ap (at times) is, waits-forward w sound x))
+
+  pub becomes-timed : i < w .calls .count → (r : Outcome) → Becomes w i r → Timed times (w .calls .label i .start) r
+  becomes-timed l (Boarded s) (j, x, is) = ends-timed l board j s x is
+  becomes-timed l (Cancelled s) (j, x, is) = ends-timed l cancel j s x is
+  becomes-timed l Open x = tt
+
+  -- The figures of the calls before, with what the call adds, are those with the call.
+  pub figured-added : {f : Figures} → Figured w i f → (r : Outcome) → Becomes w i r → (k : ℕ) → k ≡ i + 1 → Figured w k (added (at times) (w .calls .label i .start) f r)
+  figured-added {f} x (Boarded s) (j, h, is) k more =
+      figured-ended w sound x board j (at times s - at times (w .calls .label i .start)) h (ap (λ (n : ℕ). at times n - at times (w .calls .label i .start)) is)
+      k _ refl (omega arith) (omega arith) (max-is (f .longest) _) refl (omega arith) refl refl refl refl more
+  figured-added {f} x (Cancelled s) (j, h, is) k more =
+      figured-ended w sound x cancel j (at times s - at times (w .calls .label i .start)) h (ap (λ (n : ℕ). at times n - at times (w .calls .label i .start)) is)
+      k _ refl (omega arith) (omega arith) (max-is (f .longest) _) (omega arith) refl refl refl refl refl more
+  figured-added x Open h k more = figured-open w sound x h k _ refl refl refl refl refl refl refl refl more

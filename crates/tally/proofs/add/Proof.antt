@@ -1,0 +1,70 @@
+-- `tally::add` meets its contract, case by case of the outcome.
+use native.Mathlib.Omega.{arith}
+use mathlib.Core.Path.{ap, subst, _∙_}
+use borrow.Author.Needs.{needs}
+use Rattle.meaning.specs.declared.Figures.{Figures}
+use Rattle.tally.specs.Adding.{Timed}
+use Rattle.tally.proofs.Counting.{added-boarded, added-cancelled, added-open}
+use Rattle.tally.proofs.add.Statement.{statement}
+use Rattle.tally.proofs.add.Tie as tie
+
+enum-known-outcome : tie.Need-enum-known-outcome
+enum-known-outcome c = search needs
+
+wait-requires : tie.Need-wait-requires
+wait-requires c κs = let s = c .before .before .before .before in subst (Timed (s .args .times .now) (s .args .start)) (c .before .outcome .given .1) (s .pre .1)
+
+waited-requires : tie.Need-waited-requires
+waited-requires c κs = search needs
+
+add-sum : tie.Need-add-sum
+add-sum c = record { fits = omega (arith, ap (λ (f : Figures). f .boarded) (c .before .waited .ensures), c .before .before .before .before .before .before .before .pre .0 .boarded) }
+
+enum-known-outcome-2 : tie.Need-enum-known-outcome-2
+enum-known-outcome-2 c = search needs
+
+wait-requires-2 : tie.Need-wait-requires-2
+wait-requires-2 c κs = let s = c .before .before .before .before in subst (Timed (s .args .times .now) (s .args .start)) (c .before .outcome2 .given .1) (s .pre .1)
+
+waited-requires-2 : tie.Need-waited-requires-2
+waited-requires-2 c κs = search needs
+
+add-sum-2 : tie.Need-add-sum-2
+add-sum-2 c = record { fits = omega (arith, ap (λ (f : Figures). f .cancelled) (c .before .waited2 .ensures), c .before .before .before .before .before .before .before .pre .0 .cancelled) }
+
+enum-told : tie.Need-enum-told
+enum-told c = search needs
+
+add-sum-3 : tie.Need-add-sum-3
+add-sum-3 c = search needs
+
+add-sum-4 : tie.Need-add-sum-4
+add-sum-4 c = search needs
+
+returns : tie.Need-returns
+returns c = (added-boarded _ _ _ _ (c .before .before .before .before .outcome .given .1) (c .before .before .wait .ensures .0) (c .before .waited .ensures), omega (arith, ap (λ (f : Figures). f .total) (c .before .waited .ensures), c .before .before .wait .ensures .1))
+
+returns-2 : tie.Need-returns-2
+returns-2 c = (added-cancelled _ _ _ _ (c .before .before .before .before .outcome2 .given .1) (c .before .before .wait2 .ensures .0) (c .before .waited2 .ensures), omega (arith, ap (λ (f : Figures). f .total) (c .before .waited2 .ensures), c .before .before .wait2 .ensures .1))
+
+returns-3 : tie.Need-returns-3
+returns-3 c = (added-open _ _ _ _ (c .before .before .enum-told .given .1), omega arith)
+
+pub add-spec : {M : Type 1} → statement M
+add-spec =
+    tie.close
+    (tie.spec
+    enum-known-outcome
+    wait-requires
+    waited-requires
+    add-sum
+    enum-known-outcome-2
+    wait-requires-2
+    waited-requires-2
+    add-sum-2
+    enum-told
+    add-sum-3
+    add-sum-4
+    returns
+    returns-2
+    returns-3)

@@ -2,6 +2,7 @@
 ghost use mathlib.Core.Path.{_≡_};
 ghost use Rattle.meaning.specs.Limits.{mostTags, mostLabels, mostNested, mostName, mostText, mostSteps, mostDepth};
 ghost use Rattle.meaning.specs.Pages.{noStep};
+ghost use Rattle.meaning.specs.Waits.{noFigures};
 
 // What a call says of the page that it wrote. A refusal has its number, 0 rows, no further record, next place 0 and no unknown step.
 pub struct Page {
@@ -42,6 +43,24 @@ pub struct Figures {
     pub longest: u64,
     // Over how many calls the total is: the mean is the one divided by the other.
     pub over: u64,
+}
+
+impl Figures {
+    // A refusal, by its number; with 0 the figures of no calls.
+    pub fn none(refusal: u32) -> Figures
+        ensures { λ r. ⌜ r ≡ noFigures refusal ⌝ }
+    {
+        Figures {
+            refusal: refusal,
+            calls: 0,
+            boarded: 0,
+            cancelled: 0,
+            left_open: 0,
+            total: 0,
+            longest: 0,
+            over: 0,
+        }
+    }
 }
 
 // A label: the numbers at which a record starts and ends.

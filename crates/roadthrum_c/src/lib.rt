@@ -1,9 +1,10 @@
-// The three calls as C and Rust link them; include/roadthrum.h declares them. Each passes on what the inner call promises.
+// The four calls as C and Rust link them; include/roadthrum.h declares them. Each passes on what the inner call promises.
 ghost use Prim.Native.Nat.{_≤_};
 ghost use mathlib.Core.Path.{_≡_};
 ghost use Rattle.meaning.specs.Limits.{mostLabels};
-ghost use Rattle.meaning.specs.Promises.{Checked, Answered, Shown};
-ghost use Rattle.roadthrum_c.specs.Boundary.{numbers as Boundary·numbers, PassedOn};
+ghost use Rattle.meaning.specs.Promises.{Checked, Answered, Shown, Tabled};
+ghost use Rattle.roadthrum_c.specs.Boundary.{numbers as Boundary·numbers, eight, PassedOn, TablePassedOn};
+use meaning::Figures;
 use meaning::Page;
 
 // The page as five numbers.
@@ -17,6 +18,22 @@ fn numbers(page: Page) -> [u32; 5]
         page.more as u32,
         page.next,
         page.unknown,
+    ]
+}
+
+// The figures as eight numbers.
+fn figures_of(f: Figures) -> [u64; 8]
+    ensures { λ r. ⌜ r ≡ eight f ⌝ }
+{
+    [
+        f.refusal as u64,
+        f.calls,
+        f.boarded,
+        f.cancelled,
+        f.left_open,
+        f.total,
+        f.longest,
+        f.over,
     ]
 }
 
@@ -54,4 +71,12 @@ pub extern "C" fn roadthrum_evidence(
     ensures { λ _. ⌜ PassedOn (Shown (now (index .entry)) (now (question .entry)) place (now (rows .entry)) (now (rows .exit))) (now (result .exit)) ⌝ }
 {
     *result = numbers(answer::evidence(index, question, place, rows));
+}
+
+// The waits call; its figures are written to `figures`.
+#[no_mangle]
+pub extern "C" fn roadthrum_waits(index: &[u8], times: &[u32], figures: &mut [u64; 8])
+    ensures { λ _. ⌜ TablePassedOn (Tabled (now (index .entry)) (now (times .entry))) (now (figures .exit)) ⌝ }
+{
+    *figures = figures_of(waits::waits(index, times));
 }

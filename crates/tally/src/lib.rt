@@ -4,7 +4,7 @@ ghost use mathlib.Core.Path.{_≡_};
 ghost use Prim.Native.Nat.{_+_, _-_, _/_, _≤_, _<_, max};
 ghost use lib.ListN.{length};
 ghost use Rattle.meaning.specs.Bytes.{at};
-ghost use Rattle.meaning.specs.Waits.{inBody, trafficOf, Figured, noFigures};
+ghost use Rattle.meaning.specs.Waits.{inBody, trafficOf, Figured};
 ghost use Rattle.meaning.specs.Fit.{Sound};
 ghost use Rattle.label.specs.Started.{Ascends, Between};
 ghost use Rattle.tally.specs.Sights.{Whole, Sees, Decided};
@@ -133,29 +133,13 @@ fn add(f: Figures, times: &[u32], start: u32, outcome: Outcome) -> Figures
     sum
 }
 
-// The figures of no calls.
-fn nothing() -> Figures
-    ensures { λ r. ⌜ r ≡ noFigures 0 ⌝ }
-{
-    Figures {
-        refusal: 0,
-        calls: 0,
-        boarded: 0,
-        cancelled: 0,
-        left_open: 0,
-        total: 0,
-        longest: 0,
-        over: 0,
-    }
-}
-
 // The figures of all calls of a body.
 pub fn tally(calls: &[u8], boards: &[u8], cancels: &[u8], times: &[u32]) -> Figures
     requires { ⌜ Sound (trafficOf (now calls) (now boards) (now cancels) (now times)) (length (now times)) ⌝ }
     ensures { λ r. ⌜ Figured (trafficOf (now (calls .entry)) (now (boards .entry)) (now (cancels .entry)) (now (times .entry))) (length (now (calls .entry)) / 8) r ⌝ }
 {
     let n = calls.len() / Label::BYTES;
-    let mut figures = nothing();
+    let mut figures = Figures::none(0);
     let mut board = 0;
     let mut cancel = 0;
     let mut i = 0;

@@ -35,11 +35,11 @@ has-call t = omega (arith, t .loop-test .taken)
 whole : (t : tie.In-loop Inv-loop μ-loop) (e : Ending) (c : Label) → c ≡ day t .calls .label (t .before .loop .i) → Whole (day t .ended e) c
 whole t e = whole-of (start t .args .calls .now) (start t .args .boards .now) (start t .args .cancels .now) (start t .args .times .now) (sound t) e (t .before .loop .i) (has-call t)
 
-nothing-requires : tie.Need-nothing-requires Inv-loop μ-loop
-nothing-requires c κs = search needs
+none-requires : tie.Need-none-requires Inv-loop μ-loop
+none-requires c κs = search needs
 
 loop-holds : tie.Need-loop-holds Inv-loop μ-loop
-loop-holds c = turning-begin _ _ _ _ _ (c .nothing .ensures)
+loop-holds c = turning-begin _ _ _ _ _ (c .none .ensures)
 
 label-at-requires : tie.Need-label-at-requires Inv-loop μ-loop
 label-at-requires c κs = omega (arith, has-call c)
@@ -90,7 +90,7 @@ tally-spec =
     (tie.spec
     Inv-loop
     μ-loop
-    nothing-requires
+    none-requires
     loop-holds
     label-at-requires
     look-requires

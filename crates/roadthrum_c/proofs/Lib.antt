@@ -1,3 +1,3 @@
--- Why the five numbers are right and fixed.
+-- Why the numbers are right and fixed.
 pub mod Fixed
 pub mod Passing

@@ -17,5 +17,5 @@ module _ {Row : Asked → ℕ → List ℕ → Type 0} {room : Asked → ℕ →
   to-number = few-rows o
 
   -- Its numbers pass it on.
-  pub passed-on : {result : List ℕ} → result ≡ numbers r → PassedOn (Outcome (callTable b text) Row room b text place entry exit) result
-  passed-on e = record { page = r; promised = o; numbered = e }
+  pub passed-on : {result : List ℕ} → result ≡ numbers r → PassedOn numbers (Outcome (callTable b text) Row room b text place entry exit) result
+  passed-on e = record { outcome = r; promised = o; numbered = e }

@@ -3,7 +3,7 @@ ghost use Prim.Native.Nat.{_≤_};
 ghost use mathlib.Core.Path.{_≡_};
 ghost use Rattle.meaning.specs.Limits.{mostLabels};
 ghost use Rattle.meaning.specs.Promises.{Checked, Answered, Shown, Tabled};
-ghost use Rattle.roadthrum_c.specs.Boundary.{numbers as Boundary·numbers, eight, PassedOn, TablePassedOn};
+ghost use Rattle.roadthrum_c.specs.Boundary.{numbers as Boundary·numbers, figureNumbers, PassedOn};
 use meaning::Figures;
 use meaning::Page;
 
@@ -22,8 +22,8 @@ fn numbers(page: Page) -> [u32; 5]
 }
 
 // The figures as eight numbers.
-fn figures_of(f: Figures) -> [u64; 8]
-    ensures { λ r. ⌜ r ≡ eight f ⌝ }
+fn figure_numbers(f: Figures) -> [u64; 8]
+    ensures { λ r. ⌜ r ≡ figureNumbers f ⌝ }
 {
     [
         f.refusal as u64,
@@ -54,7 +54,7 @@ pub extern "C" fn roadthrum_answer(
     rows: &mut [u32],
     result: &mut [u32; 5],
 )
-    ensures { λ _. ⌜ PassedOn (Answered (now (index .entry)) (now (question .entry)) place (now (rows .entry)) (now (rows .exit))) (now (result .exit)) ⌝ }
+    ensures { λ _. ⌜ PassedOn Boundary·numbers (Answered (now (index .entry)) (now (question .entry)) place (now (rows .entry)) (now (rows .exit))) (now (result .exit)) ⌝ }
 {
     *result = numbers(answer::answer(index, question, place, rows));
 }
@@ -68,7 +68,7 @@ pub extern "C" fn roadthrum_evidence(
     rows: &mut [u32],
     result: &mut [u32; 5],
 )
-    ensures { λ _. ⌜ PassedOn (Shown (now (index .entry)) (now (question .entry)) place (now (rows .entry)) (now (rows .exit))) (now (result .exit)) ⌝ }
+    ensures { λ _. ⌜ PassedOn Boundary·numbers (Shown (now (index .entry)) (now (question .entry)) place (now (rows .entry)) (now (rows .exit))) (now (result .exit)) ⌝ }
 {
     *result = numbers(answer::evidence(index, question, place, rows));
 }
@@ -76,7 +76,7 @@ pub extern "C" fn roadthrum_evidence(
 // The waits call; its figures are written to `figures`.
 #[no_mangle]
 pub extern "C" fn roadthrum_waits(index: &[u8], times: &[u32], figures: &mut [u64; 8])
-    ensures { λ _. ⌜ TablePassedOn (Tabled (now (index .entry)) (now (times .entry))) (now (figures .exit)) ⌝ }
+    ensures { λ _. ⌜ PassedOn figureNumbers (Tabled (now (index .entry)) (now (times .entry))) (now (figures .exit)) ⌝ }
 {
-    *figures = figures_of(waits::waits(index, times));
+    *figures = figure_numbers(waits::waits(index, times));
 }

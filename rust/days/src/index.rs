@@ -31,6 +31,18 @@ impl Day {
         self.lists.values().map(Vec::len).sum()
     }
 
+    /// How many entries a list of times needs for each start and end to have one: one more than the greatest number.
+    pub fn entries_needed(&self) -> usize {
+        self.lists.values().flatten().map(|label| label.0.max(label.1) as usize + 1).max().unwrap_or(0)
+    }
+
+    /// The same records under other names: the first tag has the first of the names, and so on. The names have to differ, and to be as many
+    /// as the tags.
+    pub fn renamed(self, names: &[&str]) -> Day {
+        assert_eq!(names.len(), self.lists.len());
+        Day { lists: names.iter().map(|name| name.as_bytes().to_vec()).zip(self.lists.into_values()).collect() }
+    }
+
     /// Each list in order of start, as an index has it.
     pub fn sort(&mut self) {
         for list in self.lists.values_mut() {

@@ -1,4 +1,4 @@
-//! Seeded days, written as day indexes.
+//! Seeded days, written as day indexes, and times for their numbers.
 //!
 //! The same seed gives the same day on every machine, so that a case can be named by its seed.
 
@@ -13,6 +13,7 @@ mod lift;
 mod nested;
 mod seeded;
 mod small;
+mod times;
 
 pub use apart::apart_day;
 pub use halves::halves_day;
@@ -20,4 +21,5 @@ pub use index::{Day, Label};
 pub use lift::lift_day;
 pub use nested::nested_day;
 pub use seeded::Seeded;
-pub use small::small_day;
+pub use small::{small_day, small_times};
+pub use times::rising_times;

@@ -1,8 +1,8 @@
-//! The three calls.
+//! The check, and the two calls for rows.
 
 use crate::{raw, Refusal};
 
-/// What a call gives beside the rows in the lent buffer.
+/// What a call for rows gives beside those in the lent buffer.
 #[derive(Clone, Copy, Debug, PartialEq, Eq)]
 pub struct Page {
     /// The rows written, from the buffer's beginning.
@@ -26,7 +26,7 @@ pub struct Page {
 /// assert_eq!(check(b"\x00\x00\x02\x00"), Err(Refusal::OtherVersion));
 /// ```
 pub fn check(index: &[u8]) -> Result<(), Refusal> {
-    Refusal::unless_zero(raw::check(index))
+    Refusal::unless_zero(raw::check(index).into())
 }
 
 /// Writes to the buffer the list positions of the returned records from `place` on, as many as it has room for. On a refusal the buffer
@@ -66,7 +66,7 @@ pub fn evidence(index: &[u8], question: &[u8], place: u32, buffer: &mut [u32]) -
 }
 
 fn page([refusal, rows, more, next, unknown]: [u32; 5]) -> Result<Page, Refusal> {
-    Refusal::unless_zero(refusal)?;
+    Refusal::unless_zero(refusal.into())?;
     let unknown = (unknown != raw::NO_STEP).then_some(unknown as usize);
     Ok(Page { rows: rows as usize, more: more != 0, next, unknown })
 }

@@ -1,9 +1,10 @@
-//! Questions put to a day of a building's lifts, answered with evidence.
+//! Questions put to a day of a building's lifts, answered with evidence, and how long its callers waited.
 //!
 //! A day index holds, for each tag, the labels of its records; a question such as `//call[//board]` asks for the calls with a boarding
 //! somewhere inside. [`answer`] gives the list positions of the returned records, [`evidence`] gives for each of them one record for
-//! each step of the question, and [`check`] only says whether an index is lawful. What they give is proved for every byte string as index
-//! and as question: this crate hands the bytes to the proved library and its answer back, and adds types.
+//! each step of the question, [`waits`] gives the waiting table of the day, and [`check`] only says whether an index is lawful. What they
+//! give is proved for every byte string as index and as question and for every list of times: this crate hands these to the proved library
+//! and its answer back, and adds types.
 //!
 //! ```
 //! // The small day: calls 1:20, 4:15, 7:12, 21:26 and 27:28, boardings 8:9 and 22:23.
@@ -23,6 +24,18 @@
 //! Large answers come page by page, see [`evidence_pages`] and [`answer_pages`]. Each call checks its index first, which costs more the
 //! more records the day has; a page with room for many rows is checked as often as one with room for a few.
 //!
+//! # Waiting
+//!
+//! With a list of times beside the index, [`waits`] says how many calls there are, how many of them were boarded, cancelled and left open,
+//! and how long those who boarded or gave up had waited: in total, at the longest, and, as a fraction of two numbers, on average.
+//!
+//! ```
+//! let waits = roadthrum::waits(&days::small_day().to_bytes(), &days::small_times())?;
+//! assert_eq!((waits.boarded, waits.cancelled, waits.open), (2, 2, 1));
+//! assert_eq!(waits.mean().to_string(), "61000/4");
+//! # Ok::<(), roadthrum::Refusal>(())
+//! ```
+//!
 //! # The library
 //!
 //! The proved library is the file `libroadthrum_c.a`, which `make library` in the repository makes in `target/staticlib`. It is looked for
@@ -41,8 +54,10 @@ mod pages;
 pub mod raw;
 mod refusal;
 mod steps;
+mod waits;
 
 pub use calls::{answer, check, evidence, Page};
 pub use pages::{answer_pages, evidence_pages, Pages, Rows};
 pub use refusal::Refusal;
 pub use steps::steps;
+pub use waits::{waits, Mean, Waits};

@@ -12,6 +12,8 @@
 //! assert_eq!(buffer, [2, 3]);
 //! assert_eq!(raw::answer(&index, b"/call", 2, &mut buffer), [8, 0, 0, 0, 32]);
 //! assert_eq!(raw::check(b""), 1);
+//! assert_eq!(raw::waits(&index, &[7; 29]), [0, 5, 2, 2, 1, 0, 0, 4]);
+//! assert_eq!(raw::waits(&index, &[7; 28]), [20, 0, 0, 0, 0, 0, 0, 0]);
 //! ```
 
 /// What stands in place of a step where each step's name has a row in the index, and on a refusal. Steps go from 0 to at most 31.
@@ -42,6 +44,8 @@ extern "C" {
         rows_len: usize,
         result: *mut [u32; 5],
     );
+
+    fn roadthrum_waits(index: *const u8, index_len: usize, times: *const u32, times_len: usize, figures: *mut [u64; 8]);
 }
 
 /// The number of the first reason against the index, or 0 for a lawful one.
@@ -61,6 +65,18 @@ pub fn answer(index: &[u8], question: &[u8], place: u32, buffer: &mut [u32]) -> 
 pub fn evidence(index: &[u8], question: &[u8], place: u32, buffer: &mut [u32]) -> [u32; 5] {
     // SAFETY: this is the other.
     unsafe { numbers(roadthrum_evidence, index, question, place, buffer) }
+}
+
+/// The waiting call. Gives its refusal or 0, then the calls, the boarded, the cancelled and the open ones, the total wait, the longest, and
+/// the number that the total is divided by for the mean.
+pub fn waits(index: &[u8], times: &[u32]) -> [u64; 8] {
+    let mut figures = [u64::MAX; 8];
+    // SAFETY: each pointer and length are those of one slice, which is only read; the figures are lent to this call alone; the times and the
+    // figures are aligned as their types are.
+    unsafe {
+        roadthrum_waits(index.as_ptr(), index.len(), times.as_ptr(), times.len(), &mut figures);
+    }
+    figures
 }
 
 /// One of the two calls for rows, or any other function of that type.

@@ -1,8 +1,9 @@
-//! Why a call gives no rows.
+//! Why a call gives nothing else.
 
 use std::fmt;
 
-/// The first reason, in the table's order, for which an index or a question is refused. Later versions may have further ones.
+/// The first reason, in the table's order, for which an index, a question or a list of times is refused. Later versions may have further
+/// ones.
 ///
 /// ```
 /// use roadthrum::{answer, Refusal};
@@ -33,10 +34,14 @@ pub enum Refusal {
     NotFollowing = 8,
     /// 9: the question has over 32 steps or brackets over 8 deep.
     TooLarge = 9,
+    /// 20: some start or end in the index, of any tag, has no entry in the times.
+    NoEntry = 20,
+    /// 21: an entry of the times, also one past the numbers in use, is smaller than the one before.
+    TimesDescend = 21,
 }
 
 impl Refusal {
-    const ALL: [Refusal; 9] = [
+    const ALL: [Refusal; 11] = [
         Refusal::TooShort,
         Refusal::OtherVersion,
         Refusal::WrongContents,
@@ -46,6 +51,8 @@ impl Refusal {
         Refusal::TooLong,
         Refusal::NotFollowing,
         Refusal::TooLarge,
+        Refusal::NoEntry,
+        Refusal::TimesDescend,
     ];
 
     /// Its number in the table.
@@ -65,15 +72,17 @@ impl Refusal {
             Refusal::TooLong => "the question has over 1,024 bytes",
             Refusal::NotFollowing => "the question does not follow the notation",
             Refusal::TooLarge => "the question has over 32 steps or brackets over 8 deep",
+            Refusal::NoEntry => "a start or end in the index has no entry in the times",
+            Refusal::TimesDescend => "an entry of the times is smaller than the one before",
         }
     }
 
-    /// What a call's number says. The library is proved to give no number over 9.
-    pub(crate) fn unless_zero(number: u32) -> Result<(), Refusal> {
+    /// What a call's number says. The library is proved to give no other number than 0 and these.
+    pub(crate) fn unless_zero(number: u64) -> Result<(), Refusal> {
         if number == 0 {
             return Ok(());
         }
-        match Refusal::ALL.get(number as usize - 1) {
+        match Refusal::ALL.iter().find(|refusal| u64::from(refusal.number()) == number) {
             Some(refusal) => Err(*refusal),
             None => unreachable!("the library gave the refusal {}, which the table of its calls does not have", number),
         }

@@ -66,7 +66,7 @@ impl Index {
     }
 
     /// All labels of the whole index.
-    fn labels(&self) -> Vec<Label> {
+    pub fn labels(&self) -> Vec<Label> {
         self.tags.iter().flat_map(|(_, list)| list.clone()).collect()
     }
 }

@@ -1,7 +1,8 @@
-//! What document 01, with change request C-16 of document 02, says that a question gives, found from their words alone.
+//! What document 01, with the change requests C-16 and C-17 of document 02, says that a question gives and that a waiting table has, found
+//! from their words alone.
 //!
-//! Nothing here is quick or shares anything with the library that it judges. There are two evaluators: the first tries all picks, the
-//! second works with sets and so can take larger days and longer questions.
+//! Nothing here is quick or shares anything with the library that it judges. For questions there are two evaluators: the first tries all
+//! picks, the second works with sets and so can take larger days and longer questions. For the waiting table there is one.
 
 #![forbid(unsafe_code)]
 
@@ -12,11 +13,14 @@ mod picks;
 mod printed;
 mod question;
 mod sets;
+mod waits;
 
+pub use index::Label;
 pub use pages::{Found, Outcome, Row, NO_STEP};
 pub use printed::{noted, printed};
+pub use waits::{calls, waits, Call, Made, Waits};
 
-use index::{Index, Label};
+use index::Index;
 use question::Question;
 
 /// The refusal number of an index, or 0 for a lawful one.

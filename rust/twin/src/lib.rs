@@ -13,6 +13,7 @@ mod name;
 mod pages;
 mod question;
 mod sweep;
+mod waits;
 
 use contents::{contents, find, Row};
 use cursors::Step;
@@ -20,6 +21,7 @@ use label::List;
 use pages::{write_page, Shown};
 
 pub use pages::{Page, NO_STEP};
+pub use waits::Waits;
 
 /// The number of the first reason for which the index is refused, or 0 for a lawful one.
 pub fn check(index: &[u8]) -> u32 {
@@ -36,6 +38,11 @@ pub fn evidence(index: &[u8], question: &[u8], place: u32, out: &mut [u32]) -> P
     respond(index, question, place, Shown::All, out).unwrap_or_else(Page::refused)
 }
 
+/// The waiting table of a day, of which entry i of the times is the time of the start or end i.
+pub fn waits(index: &[u8], times: &[u32]) -> Waits {
+    checked(index).and_then(|rows| waits::table(&rows, times)).unwrap_or_else(Waits::refused)
+}
+
 /// The rows of a lawful index.
 fn checked(index: &[u8]) -> Result<Vec<Row<'_>>, u32> {
     let rows = contents(index)?;
@@ -48,7 +55,7 @@ fn checked(index: &[u8]) -> Result<Vec<Row<'_>>, u32> {
     Ok(rows)
 }
 
-/// What both calls do: check the index, read the question, find each step's list, and write a page. An unknown name has an empty list.
+/// What both calls for rows do: check the index, read the question, find each step's list, and write a page. An unknown name has an empty list.
 fn respond(index: &[u8], text: &[u8], place: u32, shown: Shown, out: &mut [u32]) -> Result<Page, u32> {
     let rows = checked(index)?;
     let question = question::read(text)?;

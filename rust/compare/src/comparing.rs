@@ -3,7 +3,7 @@
 use crate::{Call, Case, Library, Tally};
 use evaluator::{Asked, Found, Outcome, Way};
 
-/// Compares all three calls on one case, and gives what was seen or says what differs.
+/// Compares the check and the calls for rows on one case, and gives what was seen or says what differs.
 pub fn compare_case(library: &Library, case: &Case) -> Result<Tally, String> {
     let (expected, given) = (evaluator::check(&case.index), (library.check)(&case.index));
     if expected != given {

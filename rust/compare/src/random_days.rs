@@ -17,8 +17,18 @@ pub struct Shape {
     pub tag_by_depth: bool,
 }
 
-/// A day of this shape. Records are opened and closed at ascending numbers, so that no two share a number or cross.
+/// A day of this shape.
 pub fn random_day(random: &mut Seeded, shape: &Shape) -> Day {
+    day_at(random, shape, ascending_numbers)
+}
+
+/// A day of this shape with numbers so low that a short list of times has an entry for each of them.
+pub fn random_day_of_low_numbers(random: &mut Seeded, shape: &Shape) -> Day {
+    day_at(random, shape, low_numbers)
+}
+
+/// A day whose records are opened and closed at ascending numbers, so that no two share a number or cross.
+fn day_at(random: &mut Seeded, shape: &Shape, numbers: fn(&mut Seeded, usize) -> Vec<u32>) -> Day {
     let mut day = Day::new();
     if random.chance(1, 2) {
         // Tags that get no record have a row with the number 0.
@@ -26,7 +36,7 @@ pub fn random_day(random: &mut Seeded, shape: &Shape) -> Day {
     }
     let mut left = shape.records;
     let mut open = Vec::new();
-    for number in ascending_numbers(random, 2 * shape.records) {
+    for number in numbers(random, 2 * shape.records) {
         let may_open = left > 0 && open.len() < shape.deepest;
         if may_open && (open.is_empty() || random.chance(shape.opening, 8)) {
             open.push((tag(random, shape, open.len()), number));
@@ -50,20 +60,38 @@ fn tag<'a>(random: &mut Seeded, shape: &'a Shape, around: usize) -> &'a str {
 /// So many numbers, without gaps, with small ones or with large ones; sometimes the first is 0, sometimes the last is 4,294,967,295.
 fn ascending_numbers(random: &mut Seeded, count: usize) -> Vec<u32> {
     let widest_gap = *random.pick(&[1, 3, u32::MAX as usize / (count + 1)]);
-    let mut numbers = Vec::with_capacity(count);
-    let mut last = 0;
-    for _ in 0..count {
-        last += 1 + random.below(widest_gap) as u32;
-        numbers.push(last);
-    }
+    let mut numbers = with_gaps(random, count, widest_gap);
+    let last = numbers.last().copied().unwrap_or(0);
     if random.chance(1, 4) {
         numbers.iter_mut().for_each(|number| *number += u32::MAX - last);
     }
-    if let (Some(first), true) = (numbers.first_mut(), random.chance(1, 4)) {
-        *first = 0;
-    }
+    may_begin_at_0(random, &mut numbers);
     if let (Some(last), true) = (numbers.last_mut(), random.chance(1, 4)) {
         *last = u32::MAX;
     }
     numbers
+}
+
+/// So many numbers, without gaps or with small ones; sometimes the first is 0.
+fn low_numbers(random: &mut Seeded, count: usize) -> Vec<u32> {
+    let widest_gap = *random.pick(&[1, 2, 5]);
+    let mut numbers = with_gaps(random, count, widest_gap);
+    may_begin_at_0(random, &mut numbers);
+    numbers
+}
+
+/// So many numbers behind 0, each at most so far behind the one before.
+fn with_gaps(random: &mut Seeded, count: usize, widest_gap: usize) -> Vec<u32> {
+    let mut last = 0;
+    let mut next = |_| {
+        last += 1 + random.below(widest_gap) as u32;
+        last
+    };
+    (0..count).map(&mut next).collect()
+}
+
+fn may_begin_at_0(random: &mut Seeded, numbers: &mut [u32]) {
+    if let (Some(first), true) = (numbers.first_mut(), random.chance(1, 4)) {
+        *first = 0;
+    }
 }

@@ -21,12 +21,14 @@ const FIRST_EVALUATOR: Library = Library {
     check: evaluator::check,
     answer: |index, question, place, buffer| evaluated(Way::AllPicks, index, question, |found| found.answer(place, buffer)),
     evidence: |index, question, place, buffer| evaluated(Way::AllPicks, index, question, |found| found.evidence(place, buffer)),
+    waits: evaluator::waits,
 };
 
 const SECOND_EVALUATOR: Library = Library {
     check: evaluator::check,
     answer: |index, question, place, buffer| evaluated(Way::Sets, index, question, |found| found.answer(place, buffer)),
     evidence: |index, question, place, buffer| evaluated(Way::Sets, index, question, |found| found.evidence(place, buffer)),
+    waits: evaluator::waits,
 };
 
 fn evaluated(way: Way, index: &[u8], question: &[u8], page: impl FnOnce(&Found) -> Outcome) -> Outcome {

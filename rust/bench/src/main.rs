@@ -24,6 +24,7 @@ mod rival;
 mod source;
 mod table;
 mod timing;
+mod waiting;
 mod xml;
 
 use std::process::ExitCode;
@@ -49,5 +50,6 @@ fn measure_all() -> Result<(), Failure> {
     lift::print(&contenders)?;
     nested::print(&contenders)?;
     far::print(&contenders)?;
-    growth::print(&contenders)
+    growth::print(&contenders)?;
+    waiting::print(&contenders)
 }

@@ -4,7 +4,7 @@ use crate::before::Before;
 use crate::contenders::{Call, Contender, Library, Twin};
 use crate::timing::{in_turn, Times};
 use crate::Failure;
-use twin::Page;
+use twin::{Page, Waits};
 
 /// What the buffers are filled with before a call.
 const BLANK: u32 = 0xdead_beef;
@@ -48,6 +48,19 @@ impl Contenders {
         let (records, answer) = self.call(Call::Answer, index, question, index.len() / 8)?;
         let (_, evidence) = self.call(Call::Evidence, index, question, (records + 1) * steps(question))?;
         Ok(Asked { records, answer, evidence })
+    }
+
+    /// The waiting table, and the times of the call. An earlier library without such a call takes no part.
+    pub fn waits(&self, index: &[u8], times: &[u32]) -> Result<(Waits, Times), Failure> {
+        let given: Vec<(&dyn Contender, Waits)> = self.0.iter().filter_map(|one| Some((one.as_ref(), one.waits(index, times)?))).collect();
+        let waits = given[0].1;
+        if given.iter().any(|(_, other)| *other != waits) {
+            return Err("The contenders disagree about a waiting table.".into());
+        }
+        if waits.refusal != 0 {
+            return Err(format!("The times of a waiting table were refused for {}.", waits.refusal));
+        }
+        Ok((waits, in_turn(given.iter().map(|(contender, _)| move || contender.waits(index, times)).collect())))
     }
 
     /// The rows that a call gives and its times, in buffers of the given length. The first call of each fills the buffers, which are compared.

@@ -25,9 +25,17 @@ static uint8_t day[4 + 32 * 256];
 static uint8_t steps[32 * 4];
 static uint8_t brackets[1024];
 static uint32_t rows[64];
+static uint32_t times[512];
 static uint32_t result[5];
+static uint64_t figures[8];
 
-/* An index of 256 tags, each with one record, 64 of them nested again and again: every part of the check has work to do. */
+static void write_name(unsigned tag, const char *name) { memcpy(day + 4 + 24 * tag, name, strlen(name)); }
+
+/*
+ * An index of 256 tags, each with one record, 64 of them nested again and again: every part of the check has work to do. Three of them have the
+ * names that the waiting table looks for, where these stand in the order of names; the cancellation lies in the call. Each number, 0 to 511, has a
+ * time, which is 0.
+ */
 static void write_day(void)
 {
     unsigned tag;
@@ -46,6 +54,9 @@ static void write_day(void)
         memcpy(body + 8 * tag, &start, 4);
         memcpy(body + 8 * tag + 4, &end, 4);
     }
+    write_name(30, "board");
+    write_name(32, "call");
+    write_name(33, "cancel");
 }
 
 static void write_questions(void)
@@ -79,6 +90,13 @@ static void answer_brackets(void) { roadthrum_answer(day, sizeof day, brackets, 
 
 static void evidence_brackets(void) { roadthrum_evidence(day, sizeof day, brackets, sizeof brackets, 0, rows, 64, result); }
 
+static void waits(void)
+{
+    roadthrum_waits(day, sizeof day, times, 512, figures);
+    /* Where no call is cancelled, the table was not made. */
+    result[0] = figures[ROADTHRUM_CANCELLED] == 1 ? (uint32_t)figures[ROADTHRUM_REFUSAL] : 99;
+}
+
 static const struct {
     const char *name;
     void (*work)(void);
@@ -88,6 +106,7 @@ static const struct {
     {"nothing", nothing, 0, FRAME, FRAME},
     {"a function that touches 20,000", known, 0, KNOWN, KNOWN + FRAME},
     {"the check of 256 tags", check, 0, 3500, 14000},
+    {"the waiting table of 256 tags", waits, 0, 3500, 14000},
     {"the answer to 32 steps", answer_steps, 0, 5000, 20000},
     {"the evidence of 32 steps", evidence_steps, 0, 5000, 20000},
     {"the answer to 256 open brackets", answer_brackets, ROADTHRUM_NOT_FOLLOWING, 30000, ROADTHRUM_STACK},

@@ -1,7 +1,8 @@
-# make demo: four questions put to the small day.  make test: the whole gate.  make bench: the speed, beside a twin and libxml2.
+# make demo: four questions put to the small day, and its waiting table.  make test: the whole gate.
+# make bench: the speed, beside a twin and libxml2.
 .PHONY: demo test bench library program
 
-demo: program
+demo: program library
 	@bash demo/show
 
 test:

@@ -33,10 +33,12 @@ pub fn print(contenders: &Contenders) -> Result<(), Failure> {
     let rows: Vec<Row> = days().iter().map(|day| measure(contenders, day)).collect::<Result<_, _>>()?;
     print_rows("Whole, with the check of the index:", &rows, |row| row.waits, |time, _| table::time(time));
     print_rows("Less the check:", &rows, |row| row.waits.less(row.check), |time, _| table::time(time));
-    print_rows("Less the check, in nanoseconds for each record of the day:", &rows, |row| row.waits.less(row.check), table::each);
+    let lift_days = &rows[..SIZES.len()];
+    print_rows("With records, less the check, in nanoseconds for each of them:", lift_days, |row| row.waits.less(row.check), table::each);
     Ok(())
 }
 
+/// The lift days come first.
 fn days() -> Vec<Day> {
     let lift = SIZES.map(|records| Day {
         called: format!("lift day of {} records", table::number(records)),
@@ -49,7 +51,7 @@ fn days() -> Vec<Day> {
         names: &["call", "board", "cancel"],
     });
     let apart = [1, 16, 1024].map(|distance| Day {
-        called: format!("{} records, about {} boardings from one call to the next", table::number(MOST), table::number(distance)),
+        called: format!("{} records, boardings from one call to the next: about {}", table::number(MOST), table::number(distance)),
         source: Source::Apart { records: MOST, distance },
         names: &["call", "board"],
     });

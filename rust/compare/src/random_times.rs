@@ -63,7 +63,7 @@ const CHANGES: [Change; 7] = [
         descend(random, times, needed);
         one_entry_too_few(random, times, needed);
     },
-    any_order,
+    |random, times, _| any_order(random, times),
 ];
 
 /// Makes one change to the times of a day that needs so many entries. One that finds nothing to change does nothing.
@@ -104,6 +104,6 @@ fn descend(random: &mut Seeded, times: &mut [u32], needed: usize) {
     times[place] = *random.pick(&[before - 1, before - 1, 0, any_smaller]);
 }
 
-fn any_order(random: &mut Seeded, times: &mut Vec<u32>, _: usize) {
+fn any_order(random: &mut Seeded, times: &mut [u32]) {
     times.iter_mut().for_each(|time| *time = any_time(random));
 }

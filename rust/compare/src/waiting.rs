@@ -29,8 +29,12 @@ pub struct Table<'a> {
     times: &'a [u32],
 }
 
-/// What there can be among the refusals 20 and 21: what a kind is called, and whether a case is of it.
-pub const KINDS_OF_REFUSED_TIMES: [(&str, fn(&Refused) -> bool); 8] = [
+/// A kind of such cases: what it is called, and whether a case is of it.
+pub type KindOfRefused = (&'static str, fn(&Refused) -> bool);
+pub type KindOfTable = (&'static str, fn(&Table) -> bool);
+
+/// What there can be among the refusals 20 and 21.
+pub const KINDS_OF_REFUSED_TIMES: [KindOfRefused; 8] = [
     ("20, one entry too few", |seen| seen.number == 20 && seen.times.len() + 1 == seen.day.entries_needed()),
     ("20, no entries", |seen| seen.number == 20 && seen.times.is_empty()),
     ("20 for a number of another tag alone", |seen| seen.number == 20 && seen.times.len() >= needed_by_the_three(seen.day)),
@@ -45,7 +49,7 @@ pub const KINDS_OF_REFUSED_TIMES: [(&str, fn(&Refused) -> bool); 8] = [
 ];
 
 /// What there can be among the tables.
-pub const KINDS_OF_TABLES: [(&str, fn(&Table) -> bool); 17] = [
+pub const KINDS_OF_TABLES: [KindOfTable; 17] = [
     ("boarded, cancelled and open calls", |seen| seen.waits.boarded > 0 && seen.waits.cancelled > 0 && seen.waits.open > 0),
     ("a cancelled call with a boarded one inside", |seen| seen.has_inside(Some(Made::Cancelled), Some(Made::Boarded))),
     ("a boarded call with a cancelled one inside", |seen| seen.has_inside(Some(Made::Boarded), Some(Made::Cancelled))),

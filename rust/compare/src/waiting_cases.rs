@@ -79,7 +79,8 @@ fn add_another_behind(random: &mut Seeded, day: &mut Day) {
     let from_0 = day.lists.values().flatten().any(|label| label.0 == 0);
     let around = !from_0 && random.chance(1, 2);
     let start = if around { 0 } else { behind };
-    day.push(*random.pick(&OTHERS), (start, behind + 1 + random.below(3) as u32));
+    let name = *random.pick(&OTHERS);
+    day.push(name, (start, behind + 1 + random.below(3) as u32));
     day.sort();
 }
 

@@ -23,4 +23,4 @@ pub use libraries::{Call, Library, Waiting, PROVED, TWIN, WRAPPED};
 pub use seeds::Seeds;
 pub use tally::Tally;
 pub use waiting::{compare_waits, count_waits, KINDS_OF_REFUSED_TIMES, KINDS_OF_TABLES};
-pub use waiting_cases::{waiting_case, WaitingCase};
+pub use waiting_cases::{larger_waiting_case, waiting_case, WaitingCase};

@@ -3,7 +3,7 @@
 use crate::damaged_index::damage_index;
 use crate::random_days::{random_day, random_day_of_low_numbers, Shape};
 use crate::random_times::{change_times, random_times};
-use days::{Day, Seeded};
+use days::{lift_day, Day, Seeded};
 use std::fmt;
 
 pub struct WaitingCase {
@@ -21,18 +21,43 @@ const OTHERS: [&str; 6] = ["Call", "boar", "call.", "canceled", "door", "zone"];
 pub fn waiting_case(seed: u64) -> WaitingCase {
     let random = &mut Seeded::new(seed);
     let day = waiting_day(random);
-    // No list has entries for the numbers of a day of high ones.
-    let needed = day.entries_needed().min(1_000);
-    let mut times = random_times(random, needed);
-    if random.chance(1, 2) {
-        change_times(random, &mut times, needed);
-    }
+    let times = times_of(random, &day);
     let mut index = day.to_bytes();
     let damages = *random.pick(&[0, 0, 0, 0, 0, 0, 1, 2]);
     for _ in 0..damages {
         damage_index(random, &mut index);
     }
     WaitingCase { day: (damages == 0).then_some(day), index, times }
+}
+
+/// A lawful day of up to 1,000 records, of lifts or any, with times that are often wrong in some way.
+pub fn larger_waiting_case(seed: u64) -> WaitingCase {
+    let random = &mut Seeded::new(seed);
+    let records = 50 + random.below(951);
+    let day = if random.chance(1, 2) {
+        lift_day(seed, records)
+    } else {
+        let (deepest, opening) = (*random.pick(&[2, 5, 64]), 2 + random.below(5));
+        let shape = Shape { records, names: any_names(random), deepest, opening, tag_by_depth: random.chance(1, 4) };
+        random_day_of_low_numbers(random, &shape)
+    };
+    WaitingCase { index: day.to_bytes(), times: times_of(random, &day), day: Some(day) }
+}
+
+/// More entries than this no list gets, whatever the day's numbers are.
+const MOST_TIMES: usize = 20_000;
+
+/// Times for a day, every other time with a change. Where a day has high numbers, these have no entries.
+fn times_of(random: &mut Seeded, day: &Day) -> Vec<u32> {
+    let needed = match day.entries_needed() {
+        needed @ 0..MOST_TIMES => needed,
+        _ => 100,
+    };
+    let mut times = random_times(random, needed);
+    if random.chance(1, 2) {
+        change_times(random, &mut times, needed);
+    }
+    times
 }
 
 fn waiting_day(random: &mut Seeded) -> Day {

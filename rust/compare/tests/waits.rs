@@ -5,7 +5,8 @@
 mod waits_by_hand;
 
 use compare::{
-    compare_waits, count_waits, waiting_case, Seeds, Tally, Waiting, KINDS_OF_REFUSED_TIMES, KINDS_OF_TABLES, PROVED, TWIN, WRAPPED,
+    compare_waits, count_waits, larger_waiting_case, waiting_case, Seeds, Tally, Waiting, WaitingCase, KINDS_OF_REFUSED_TIMES,
+    KINDS_OF_TABLES, PROVED, TWIN, WRAPPED,
 };
 use days::Day;
 use evaluator::Waits;
@@ -51,21 +52,20 @@ fn the_small_day_with_its_times() {
     all_give("the small day", &days::small_day().to_bytes(), &days::small_times(), [0, 5, 2, 2, 1, 61_000, 30_000, 4]);
 }
 
-fn compare_all(seed: u64) -> Result<Tally, String> {
-    let case = waiting_case(seed);
+fn compare_all(case: &WaitingCase) -> Result<Tally, String> {
     let expected = evaluator::waits(&case.index, &case.times);
     for (name, waits) in JUDGED {
-        compare_waits(waits, &case, expected).map_err(|difference| format!("{name}: {difference}"))?;
+        compare_waits(waits, case, expected).map_err(|difference| format!("{name}: {difference}"))?;
     }
     let mut tally = Tally::default();
-    count_waits(&mut tally, &case, expected);
+    count_waits(&mut tally, case, expected);
     Ok(tally)
 }
 
 #[test]
 fn small_days_with_times() {
     let seeds = Seeds::new(1_000_000);
-    let seen = seeds.run(compare_all);
+    let seen = seeds.run(|seed| compare_all(&waiting_case(seed)));
     if seeds.one_alone() {
         return;
     }
@@ -78,5 +78,20 @@ fn small_days_with_times() {
     let kinds = KINDS_OF_TABLES.iter().map(|(kind, _)| kind).chain(KINDS_OF_REFUSED_TIMES.iter().map(|(kind, _)| kind));
     for kind in kinds {
         assert!(seen.of(kind) >= 300, "{kind} is hardly seen");
+    }
+}
+
+#[test]
+fn larger_days_with_times() {
+    let seeds = Seeds::new(500);
+    let seen = seeds.run(|seed| compare_all(&larger_waiting_case(seed)));
+    if seeds.one_alone() {
+        return;
+    }
+    for refusal in [0, 20, 21] {
+        assert!(seen.of(&format!("refusal {refusal}")) >= 50, "refusal {refusal} is hardly seen");
+    }
+    for kind in ["boarded, cancelled and open calls", "a cancelled call with a boarded one inside", "equal entries"] {
+        assert!(seen.of(kind) >= 50, "{kind} is hardly seen");
     }
 }

@@ -216,7 +216,21 @@ fn one_that_looks_at_some_times_alone() {
 }
 
 #[test]
+fn one_that_refuses_times_before_the_index() {
+    let times_first = |index: &[u8], times: &[u32]| match (PROVED.waits)(index, times) {
+        waits if (1..=6).contains(&waits.refusal) && descends(times) => Waits { refusal: 21, ..waits },
+        waits => waits,
+    };
+    assert!(first_difference(times_first).is_some());
+}
+
+#[test]
 fn one_that_leaves_figures_on_a_refusal() {
+    let on_a_broken_index = |index: &[u8], times: &[u32]| match (PROVED.waits)(index, times) {
+        waits if (1..=6).contains(&waits.refusal) => Waits { calls: 1, ..waits },
+        waits => waits,
+    };
+    assert!(first_difference(on_a_broken_index).is_some());
     assert!(told(Way { on_refusal: |refusal, waits| Waits { refusal, ..waits }, ..RIGHT }));
     assert!(told(Way { on_refusal: |refusal, waits| Waits { refusal, calls: waits.calls, ..Waits::default() }, ..RIGHT }));
 }

@@ -9,6 +9,7 @@ pub mod Index
 pub mod Call
 pub mod Calls
 pub mod Unknown
+pub mod Waits
 pub mod Lines
 use Prim.Native.Nat.{ℕ, _≤_}
 use mathlib.Core.Path.{_≡_}

@@ -7,6 +7,7 @@ pub mod Names
 pub mod Day
 pub mod Notation
 pub mod Unknown
+pub mod Waits
 pub mod Picks
 use Prim.Native.Nat.{ℕ, zero, suc, _+_, _≤_, _<_}
 use native.Mathlib.Nat.{eq-or-lt-of-le, le-of-suc-le-suc}

@@ -14,6 +14,7 @@ pub mod Page
 pub mod Walk
 pub mod Sum
 pub mod Waits
+pub mod AddUp
 pub mod Table
 pub mod Promise
 pub mod Few

@@ -71,9 +71,13 @@ Ended w e i = (j : ℕ) × Ends w i e j
 abbrev pub Open : Traffic → ℕ → Type 0
 Open w i = (e : Ending) (j : ℕ) → Within w i e j → ⊥
 
--- The wait of a boarded or cancelled call runs from its start to the start of the record that ends it.
+-- The wait of call i until record j of an ending: from the call's start to the record's start.
+abbrev pub waitUntil : Traffic → ℕ → Ending → ℕ → ℕ
+waitUntil w i e j = w .time (w .ended e .label j .start) - w .time (w .calls .label i .start)
+
+-- A boarded or cancelled call waits until the record that ends its wait.
 abbrev pub Waited : Traffic → ℕ → ℕ → Type 0
-Waited w i d = (e : Ending) × (j : ℕ) × Ends w i e j × (d ≡ w .time (w .ended e .label j .start) - w .time (w .calls .label i .start))
+Waited w i d = (e : Ending) × (j : ℕ) × Ends w i e j × (d ≡ waitUntil w i e j)
 
 -- What the first n add up to: each that adds something adds it, and the others nothing.
 pub data Sum (Adds : ℕ → ℕ → Type 0) : ℕ → ℕ → Type 0 where

@@ -1,8 +1,7 @@
 -- What one call more makes of the figures, by what becomes of it.
-use Prim.Native.Nat.{ℕ, _+_, _*_, _-_, _≤_, _<_, max}
+use Prim.Native.Nat.{ℕ, _+_, _*_, _-_, _≤_, _<_}
 use native.Mathlib.Omega.{arith}
 use mathlib.Core.Path.{_≡_, refl, sym, ap, _∙_}
-use mathlib.Core.Logic.{_⊎_, inl, inr, ⊎-elim}
 use mathlib.Core.List.{List}
 use lib.ListN.{length}
 use Rattle.meaning.specs.declared.Figures.{Figures}
@@ -10,9 +9,9 @@ use Rattle.meaning.specs.Limits.{mostLabels}
 use Rattle.meaning.specs.Bytes.{at}
 use Rattle.meaning.specs.Waits.{Ending, board, cancel, Traffic, trafficOf, Ends, Figured}
 use Rattle.meaning.specs.Fit.{Sound}
-use Rattle.meaning.proofs.Decide.{or-not, le-decides}
 use Rattle.meaning.proofs.Laws.Sum.{number-within}
-use Rattle.meaning.proofs.Laws.Waits.{waits-forward, figured-ended, figured-open}
+use Rattle.meaning.proofs.Laws.Waits.{figured-ended, figured-open}
+use Rattle.meaning.proofs.Laws.AddUp.{waits-forward}
 use Rattle.tally.specs.declared.Outcome.{Outcome}
 use Rattle.tally.specs.declared.Outcome.the-variants.{Boarded, Cancelled, Open}
 use Rattle.tally.specs.Sights.{Becomes}
@@ -40,10 +39,6 @@ module _ (time : ℕ → ℕ) (start : ℕ) (f : Figures) (o : Outcome) where
   pub added-open : o ≡ Open → oneOpen f ≡ added time start f o
   added-open e = sym (ap (added time start f) e)
 
--- The longer of two is at least each, and one of them.
-max-is : (m n : ℕ) → (max m n ≡ m) ⊎ (max m n ≡ n)
-max-is m n = ⊎-elim (λ l. inr (omega arith)) (λ l. inl (omega arith)) (or-not (le-decides m n))
-
 module _ (calls boards cancels times : List ℕ) (sound : Sound (trafficOf calls boards cancels times) (length times)) (i : ℕ) where
   abbrev w : Traffic
   w = trafficOf calls boards cancels times
@@ -62,8 +57,8 @@ module _ (calls boards cancels times : List ℕ) (sound : Sound (trafficOf calls
   pub figured-added : {f : Figures} → Figured w i f → (r : Outcome) → Becomes w i r → (k : ℕ) → k ≡ i + 1 → Figured w k (added (at times) (w .calls .label i .start) f r)
   figured-added {f} x (Boarded s) (j, h, is) k more =
       figured-ended w sound x board j (at times s - at times (w .calls .label i .start)) h (ap (λ (n : ℕ). at times n - at times (w .calls .label i .start)) is)
-      k _ refl (omega arith) (omega arith) (max-is (f .longest) _) refl (omega arith) refl refl refl refl more
+      k _ refl refl refl (omega arith) refl refl refl refl more
   figured-added {f} x (Cancelled s) (j, h, is) k more =
       figured-ended w sound x cancel j (at times s - at times (w .calls .label i .start)) h (ap (λ (n : ℕ). at times n - at times (w .calls .label i .start)) is)
-      k _ refl (omega arith) (omega arith) (max-is (f .longest) _) (omega arith) refl refl refl refl refl more
+      k _ refl refl (omega arith) refl refl refl refl refl more
   figured-added x Open h k more = figured-open w sound x h k _ refl refl refl refl refl refl refl refl more

@@ -1,6 +1,6 @@
 -- What the first n add up to: it is one number, it is bounded, its parts add up to it, and what one more makes of it; and the longest.
-use Prim.Native.Nat.{ℕ, zero, suc, _+_, _*_, _≤_, _<_}
-use native.Mathlib.Nat.{le-antisymm, eq-or-lt-of-le, le-of-suc-le-suc, suc-mul, zero-mul}
+use Prim.Native.Nat.{ℕ, zero, suc, _+_, _*_, _≤_, _<_, max}
+use native.Mathlib.Nat.{eq-or-lt-of-le, le-of-suc-le-suc, suc-mul, zero-mul}
 use native.Mathlib.Omega.{arith}
 use mathlib.Core.Path.{_≡_, refl, sym, subst, subst₂, _∙_}
 use mathlib.Core.Logic.{_⊎_, inl, inr, ⊎-elim}
@@ -66,10 +66,14 @@ number-all (suc n) = subst (Number (λ i. Unit) (suc n)) (omega arith) (with (nu
 
 -- The longest is one.
 pub longest-one : {Has : ℕ → ℕ → Type 0} {n l m : ℕ} → Longest Has n l → Longest Has n m → l ≡ m
-longest-one (that-of {i = i} {d = d} l h most) (that-of {i = k} {d = e} m g more) = le-antisymm (more i d l h) (most k e m g)
+longest-one (that-of {i = i} {d = d} l h most) (that-of {i = k} {d = e} m g more) = omega (arith, more i d l h, most k e m g)
 longest-one (that-of {i = i} {d = d} l h most) (nobody absent) = absurd (absent i d l h)
 longest-one (nobody absent) (that-of {i = k} {d = e} m g more) = absurd (absent k e m g)
 longest-one (nobody absent) (nobody also) = refl
+
+-- The longer of two is one of them.
+max-is : (m n : ℕ) → (max m n ≡ m) ⊎ (max m n ≡ n)
+max-is m n = ⊎-elim (λ l. inr (omega arith)) (λ l. inl (omega arith)) (or-not (le-decides m n))
 
 -- Of the first n and one more.
 module _ {Adds : ℕ → ℕ → Type 0} {n : ℕ} (k : ℕ) (more : k ≡ n + 1) where
@@ -93,15 +97,16 @@ module _ {Adds : ℕ → ℕ → Type 0} {n : ℕ} (k : ℕ) (more : k ≡ n + 1
       go (nobody absent) = nobody (up absent)
 
   -- and what has d makes it the longer of the two.
-  pub longest-more : {l m : ℕ} (d : ℕ) → l ≤ m → d ≤ m → (m ≡ l) ⊎ (m ≡ d) → OneEach Adds → Adds n d → Longest Adds n l → Longest Adds k m
-  longest-more {l} {m} d lm dm is one h x = ⊎-elim (λ e. old e x) (λ e. that-of {i = n} (omega arith) (subst (Adds n) (sym e) h) most) is
+  pub longest-more : {l m : ℕ} (d : ℕ) → m ≡ max l d → OneEach Adds → Adds n d → Longest Adds n l → Longest Adds k m
+  longest-more {l} {m} d longer one h x =
+      ⊎-elim (λ e. old (longer ∙ e) x) (λ e. that-of {i = n} (omega arith) (subst (Adds n) (sym (longer ∙ e)) h) most) (max-is l d)
     where
       low : {l : ℕ} → l ≤ m → Longest Adds n l → (i e : ℕ) → i < n → Adds i e → e ≤ m
       low lm (that-of j g all) i e q f = omega (arith, all i e q f)
       low lm (nobody absent) i e q f = absurd (absent i e q f)
 
       most : (i e : ℕ) → i < k → Adds i e → e ≤ m
-      most i e j g = ⊎-elim (λ q. omega (arith, one n e d (subst (λ (z : ℕ). Adds z e) q g) h)) (λ q. low lm x i e q g) (eq-or-lt-of-le {n = i} {m = n} (omega arith))
+      most i e j g = ⊎-elim (λ q. omega (arith, one n e d (subst (λ (z : ℕ). Adds z e) q g) h)) (λ q. low (omega arith) x i e q g) (eq-or-lt-of-le {n = i} {m = n} (omega arith))
 
       old : {l : ℕ} → m ≡ l → Longest Adds n l → Longest Adds k m
       old e (that-of {i = i} j g all) = that-of {i = i} (omega arith) (subst (Adds i) (sym e) g) most

@@ -6,7 +6,7 @@ use mathlib.Core.Logic.{_⊎_, inl, inr, ⊎-elim}
 use mathlib.Core.Bool.{Bool, true, false}
 use mathlib.Core.List.{List}
 use Rattle.meaning.specs.Answers.{Decides, holds, fails}
-use Rattle.meaning.specs.Refusals.{Table, end, row, Given, Clear, Verdict, clear, given, Lawful, followed, checkTable, questionTable, callTable}
+use Rattle.meaning.specs.Refusals.{Table, end, row, Given, Clear, Verdict, clear, given, Lawful, followed, checkTable, questionTable, callTable, waitsTable}
 use Rattle.meaning.specs.Promises.{Checked}
 
 -- A table gives at most one number.
@@ -66,6 +66,9 @@ check-rising b = (omega arith, (omega arith, (omega arith, (omega arith, (omega 
 
 pub question-rising : (text : List ℕ) → Rising 0 (questionTable text)
 question-rising text = (omega arith, (omega arith, (omega arith, tt)))
+
+pub waits-rising : (b times : List ℕ) → Rising 0 (waitsTable b times)
+waits-rising b times = (omega arith, (omega arith, (omega arith, (omega arith, (omega arith, (omega arith, (omega arith, (omega arith, tt))))))))
 
 -- What a table gives, it gives also where another follows: a broken index gives its own number, whatever the question.
 pub given-first : (t u : Table) (n : ℕ) → Given t n → Given (followed t u) n
@@ -142,3 +145,11 @@ pub row-verdict : {reason : Type 0} {a : Bool} {rest : Table} {n : ℕ} (m : ℕ
 row-verdict m (holds p) v = given (inl (p, refl))
 row-verdict m (fails q) (clear c) = clear (q, c)
 row-verdict m (fails q) (given g) = given (inr (q, g))
+
+-- A table that follows another whose verdict is known: the first one's number, or, where it gives 0, the second one's.
+pub verdict-after : {t u : Table} {m n : ℕ} {a : Bool} → Rising 0 t → Verdict t m → Decides (m ≡ 0) a → Verdict u n → Verdict (followed t u) (elim a [ true ↦ n | false ↦ m ])
+verdict-after {t} {u} rising (clear c) (holds z) (clear d) = clear (clear-both t u c d)
+verdict-after {t} {u} rising (clear c) (holds z) (given {n = n} g) = given (given-after t u n c g)
+verdict-after rising (clear c) (fails z) v = absurd (z refl)
+verdict-after {t} {u} rising (given {n = m} g) (holds z) v = absurd (omega (arith, given-above t 0 rising m g))
+verdict-after {t} {u} rising (given {n = m} g) (fails z) v = given (given-first t u m g)

@@ -6,12 +6,13 @@ use mathlib.Core.List.{List}
 use Rattle.meaning.specs.declared.Figures.{Figures}
 use Rattle.meaning.specs.Limits.{mostLabels}
 use Rattle.meaning.specs.Bytes.{at}
-use Rattle.meaning.specs.Waits.{Ending, traffic, Ends, Waited, Figured, noFigures}
+use Rattle.meaning.specs.Waits.{Ending, traffic, Ends, waitUntil, Waited, Figured, noFigures}
 use Rattle.meaning.specs.Refusals.{Clear, waitsTable}
 use Rattle.meaning.specs.Promises.{Tabled, untold, told}
 use Rattle.meaning.proofs.Laws.Table.{given-one, clear-not-given}
 use Rattle.meaning.proofs.Laws.Sum.{sum-bound, longest-of-sum}
-use Rattle.meaning.proofs.Laws.Waits.{waited-one, figured-one, over-parts, figures-add-up, waits-forward}
+use Rattle.meaning.proofs.Laws.Waits.{waited-one, figured-one}
+use Rattle.meaning.proofs.Laws.AddUp.{over-parts, figures-add-up, waits-until}
 use Rattle.meaning.proofs.Laws.Traffic.{clear-sound}
 
 -- The waits call's promise fixes every figure.
@@ -36,10 +37,10 @@ pub tabled-longest : {b times : List ℕ} {f : Figures} → Tabled b times f →
 tabled-longest (untold {n = n} x p) = omega (arith, ap (λ (f : Figures). f .longest) p)
 tabled-longest {b} {times} (told c x) = longest-of-sum (waited-one (traffic b times)) (x .total) (x .longest)
 
--- No wait is negative: by the times, the record that ends a call's wait starts no sooner than the call.
+-- No wait is negative: by the times, the call's start and the wait together make the start of the record that ends it.
 pub never-negative : (b times : List ℕ) → Clear (waitsTable b times) → {i j : ℕ} {e : Ending} → Ends (traffic b times) i e j
-    → at times (traffic b times .calls .label i .start) ≤ at times (traffic b times .ended e .label j .start)
-never-negative b times c x = waits-forward (traffic b times) (clear-sound b times c) x
+    → at times (traffic b times .calls .label i .start) + waitUntil (traffic b times) i e j ≡ at times (traffic b times .ended e .label j .start)
+never-negative b times c x = waits-until (traffic b times) (clear-sound b times c) x
 
 -- The total of 32-bit times is at most 1,048,576 times 4,294,967,295, which is below 2^52: a 64-bit number always holds it.
 pub total-fits : {b times : List ℕ} {f : Figures} → ((i : ℕ) → at times i ≤ 4_294_967_295) → Tabled b times f → f .total ≤ 1_048_576 * 4_294_967_295

@@ -1,14 +1,12 @@
 -- The waiting table: what ends a call's wait is one, its figures are one, and what one call more makes of them.
-use Prim.Native.Nat.{ℕ, zero, suc, _+_, _-_, _≤_, _<_}
-use native.Mathlib.Nat.{le-antisymm}
+use Prim.Native.Nat.{ℕ, _+_, max}
 use native.Mathlib.Omega.{arith}
-use mathlib.Core.Path.{_≡_, refl, sym, ap, _∙_}
+use mathlib.Core.Path.{_≡_, refl, sym, _∙_}
 use mathlib.Core.Logic.{_⊎_, inl, inr, ⊎-elim}
 use Rattle.meaning.specs.declared.Figures.{Figures}
-use Rattle.meaning.specs.Waits.{Ending, board, cancel, Traffic, ofEnding, Within, Ends, Ended, Open, Waited, none, Sum, Number, Longest, nobody, Figured, noFigures}
+use Rattle.meaning.specs.Waits.{Ending, board, cancel, Traffic, ofEnding, Ends, Ended, Open, waitUntil, Waited, none, Sum, Number, Longest, nobody, Figured, noFigures}
 use Rattle.meaning.specs.Fit.{Sound}
-use Rattle.meaning.proofs.Decide.{or-not, le-decides}
-use Rattle.meaning.proofs.Laws.Sum.{OneEach, ones, sum-one, sum-parts, sum-kept, sum-more, number-all, longest-one, longest-kept, longest-more}
+use Rattle.meaning.proofs.Laws.Sum.{OneEach, ones, sum-one, sum-kept, sum-more, longest-one, longest-kept, longest-more}
 
 -- Figures that are equal field by field are equal.
 pub figures-≡ : {f g : Figures} → f .refusal ≡ g .refusal → f .calls ≡ g .calls → f .boarded ≡ g .boarded → f .cancelled ≡ g .cancelled → f .left_open ≡ g .left_open
@@ -19,11 +17,11 @@ figures-≡ refusal calls boarded cancelled left total longest over =
 module _ (w : Traffic) where
   -- Records that end one call's wait start at one number.
   pub ends-one : {i j k : ℕ} {e f : Ending} → Ends w i e j → Ends w i f k → w .ended e .label j .start ≡ w .ended f .label k .start
-  ends-one {i} {j} {k} {e} {f} x y = le-antisymm (x .first f k (y .within)) (y .first e j (x .within))
+  ends-one {i} {j} {k} {e} {f} x y = omega (arith, x .first f k (y .within), y .first e j (x .within))
 
   -- So a call has one wait.
   pub waited-one : OneEach (Waited w)
-  waited-one i d g (e, j, x, p) (f, k, y, q) = p ∙ ap (λ (s : ℕ). w .time s - w .time (w .calls .label i .start)) (ends-one x y) ∙ sym q
+  waited-one i d g (e, j, x, p) (f, k, y, q) = cc (p, q, ends-one x y)
 
   -- The figures are one, field by field.
   pub figured-one : {n : ℕ} {f g : Figures} → Figured w n f → Figured w n g → f ≡ g
@@ -36,16 +34,6 @@ module _ (w : Traffic) where
   pub figured-none : Figured w 0 (noFigures 0)
   figured-none = record { refusal = refl; calls = refl; boarded = none; cancelled = none; left-open = none; total = none; longest = nobody (λ k e l. absurd (omega arith)); over = none }
 
-  -- A call that no record ends has none inside: of those inside one would start first.
-  none-inside : {i : ℕ} → ((e : Ending) → Ended w e i → ⊥) → (m : ℕ) (e : Ending) (j : ℕ) → w .ended e .label j .start < m → Within w i e j → ⊥
-  none-inside unended zero e j l x = omega arith
-  none-inside unended (suc m) e j l x =
-      unended e (j, record { within = x; first = λ f k y. ⊎-elim (λ h. h) (λ h. absurd (none-inside unended m f k (omega arith) y)) (or-not (le-decides (w .ended e .label j .start) (w .ended f .label k .start))) })
-
-  -- So it is open.
-  pub unended-open : {i : ℕ} → ((e : Ending) → Ended w e i → ⊥) → Open w i
-  unended-open unended e j x = none-inside unended (suc (w .ended e .label j .start)) e j (omega arith) x
-
   -- An open call is ended by no record.
   pub open-unended : {i : ℕ} → Open w i → (e : Ending) → Ended w e i → ⊥
   open-unended o e (j, x) = o e j (x .within)
@@ -55,38 +43,20 @@ module _ (w : Traffic) where
     pub not-both : {i : ℕ} → Ended w board i → Ended w cancel i → ⊥
     not-both (j, x) (k, y) = sound .apart j k (x .within .is) (y .within .is) (ends-one x y)
 
-    -- A wait is never negative: the record that ends it starts after the call, and so no sooner.
-    pub waits-forward : {i j : ℕ} {e : Ending} → Ends w i e j → w .time (w .calls .label i .start) ≤ w .time (w .ended e .label j .start)
-    waits-forward {i} {j} {e} x = sound .forward (w .calls .label i .start) (w .ended e .label j .start) (omega (arith, x .within .inside .after)) (sound .ended-timed e j (x .within .is))
-
     module _ {n : ℕ} {f : Figures} (x : Figured w n f) where
-      -- Over how many the total is: the boarded and the cancelled.
-      pub over-parts : f .boarded + f .cancelled ≡ f .over
-      over-parts = sum-parts (ones (λ i. Ended w board i ⊎ Ended w cancel i)) (λ i d e p q. not-both (p .0) (q .0)) (λ i d p. (inl (p .0), p .1)) (λ i d q. (inr (q .0), q .1))
-          (λ i p q d r. ⊎-elim (λ h. p d (h, r .1)) (λ h. q d (h, r .1)) (r .0)) (x .boarded) (x .cancelled) (x .over)
-
-      -- Boarded, cancelled and open add up to the calls.
-      pub figures-add-up : f .boarded + f .cancelled + f .left_open ≡ f .calls
-      figures-add-up = omega (arith, over-parts, x .calls, sum-parts (ones (λ i. Unit)) (λ i d e p q. ⊎-elim (open-unended (q .0) board) (open-unended (q .0) cancel) (p .0)) (λ i d p. (tt, p .1)) (λ i d q. (tt, q .1))
-          (λ i p q d r. q 1 (unended-open (unended i p), refl)) (x .over) (x .left-open) (number-all n))
-        where
-          unended : (i : ℕ) → ((d : ℕ) → (Ended w board i ⊎ Ended w cancel i) × (d ≡ 1) → ⊥) → (e : Ending) → Ended w e i → ⊥
-          unended i p board h = p 1 (inl h, refl)
-          unended i p cancel h = p 1 (inr h, refl)
-
       -- One call more, which record j of an ending ends after a wait of d.
-      pub figured-ended : (e : Ending) (j d : ℕ) → Ends w n e j → d ≡ w .time (w .ended e .label j .start) - w .time (w .calls .label n .start)
-          → (k : ℕ) (g : Figures) → g .total ≡ f .total + d → f .longest ≤ g .longest → d ≤ g .longest → (g .longest ≡ f .longest) ⊎ (g .longest ≡ d)
+      pub figured-ended : (e : Ending) (j d : ℕ) → Ends w n e j → d ≡ waitUntil w n e j
+          → (k : ℕ) (g : Figures) → g .total ≡ f .total + d → g .longest ≡ max (f .longest) d
           → g .boarded ≡ f .boarded + ofEnding 1 0 e → g .cancelled ≡ f .cancelled + ofEnding 0 1 e → g .left_open ≡ f .left_open → g .over ≡ f .over + 1
           → g .refusal ≡ f .refusal → g .calls ≡ f .calls + 1 → k ≡ n + 1 → Figured w k g
-      figured-ended e j d h wait k g total longer long is boarded cancelled left over refusal calls more = record {
+      figured-ended e j d h wait k g total longer boarded cancelled left over refusal calls more = record {
         refusal = refusal ∙ x .refusal;
         calls = omega (arith, x .calls);
         boarded = counted board e boarded (x .boarded) h;
         cancelled = counted cancel e cancelled (x .cancelled) h;
         left-open = sum-kept k more left (λ c o. o .0 e j (h .within)) (x .left-open);
         total = sum-more k more d total (e, j, h, wait) (x .total);
-        longest = longest-more k more d longer long is waited-one (e, j, h, wait) (x .longest);
+        longest = longest-more k more d longer waited-one (e, j, h, wait) (x .longest);
         over = sum-more k more 1 over (either e h, refl) (x .over);
       }
         where

@@ -61,9 +61,10 @@ decide-requires c κs = search needs
 add-requires : tie.Need-add-requires Inv-loop μ-loop
 add-requires c κs =
     let a = c .before .before .before in
-    let t = a .before in
-    (turning-small _ _ _ _ (sound t) (t .before .loop .inv) (has-call t),
-    turning-timed _ _ _ _ (sound t) (t .before .loop .inv) (has-call t) (a .label-at .result) (a .label-at .ensures) _ _ (c .before .before .look .ensures) (c .before .look2 .ensures) (c .decide .result) (c .decide .ensures))
+    let t = a .before in (
+      turning-small _ _ _ _ (sound t) (t .before .loop .inv) (has-call t),
+      turning-timed _ _ _ _ (sound t) (t .before .loop .inv) (has-call t) (a .label-at .result) (a .label-at .ensures) _ _ (c .before .before .look .ensures) (c .before .look2 .ensures) (c .decide .result) (c .decide .ensures),
+    )
 
 add-i : tie.Need-add-i Inv-loop μ-loop
 add-i c = let t = c .before .before .before .before .before in record { fits = omega (arith, has-call t, sound t .few) }

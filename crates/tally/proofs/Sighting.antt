@@ -11,8 +11,12 @@ use Rattle.meaning.specs.Day.{labelAt}
 use Rattle.meaning.specs.Waits.{inBody}
 use Rattle.meaning.proofs.Decide.{or-not, le-decides}
 use Rattle.meaning.proofs.Laws.Label.{no-later}
-use Rattle.label.specs.Started.{Ascends, Started}
+use Rattle.label.specs.Started.{Ascends, Between, Started}
 use Rattle.tally.specs.Sights.{Whole, FirstStart, first, nothing}
+
+-- A place moves on only forward: records that start no later than the call are not counted off again.
+pub moves-on : {body : List ℕ} {n v from p : ℕ} → Between body 0 n v from n → Started body 0 n v p → from ≤ p
+moves-on {from = from} {p = p} b s = ⊎-elim (λ l. l) (λ h. absurd (omega (arith, b .first p (omega arith), s .rest p (omega arith) (omega (arith, b .ordered))))) (or-not (le-decides from p))
 
 module _ (body : List ℕ) (c : Label) (p : ℕ) (ascends : Ascends body 0 (length body / 8)) (whole : Whole (inBody body) c) (started : Started body 0 (length body / 8) (c .start) p) where
   -- What lies inside the call starts after it, and so stands at the place or behind it.

@@ -117,12 +117,12 @@ fn add(f: Figures, times: &[u32], start: u32, outcome: Outcome) -> Figures
 {
     let mut sum = f;
     match outcome {
-        Outcome::Boarded(until) => {
-            sum = waited(f, wait(times, start, until));
+        Outcome::Boarded(board) => {
+            sum = waited(f, wait(times, start, board));
             sum.boarded += 1;
         }
-        Outcome::Cancelled(until) => {
-            sum = waited(f, wait(times, start, until));
+        Outcome::Cancelled(cancel) => {
+            sum = waited(f, wait(times, start, cancel));
             sum.cancelled += 1;
         }
         Outcome::Open => {

@@ -1,7 +1,7 @@
 // The times that are lent beside a day index: refusals 20 and 21.
 ghost use Rattle.meaning.specs.Answers.{Decides};
 ghost use Rattle.meaning.specs.Waits.{NoEntry, TimesDescend};
-ghost use Rattle.meaning.specs.Refusals.{Lawful};
+ghost use Rattle.meaning.specs.Refusals.{Lawful, Verdict, timesTable};
 ghost use Rattle.contents.specs.Parts.{InIndex};
 ghost use Rattle.times.specs.Entries.{EndsPast};
 use contents::rows;
@@ -23,7 +23,7 @@ fn ends_past(index: &[u8], list: Body, entries: usize) -> bool
 }
 
 // Whether some start or end of a lawful index has no entry. A label's end is the greater of its numbers, so that the ends are enough.
-pub fn entry_missing(index: &[u8], times: &[u32]) -> bool
+fn entry_missing(index: &[u8], times: &[u32]) -> bool
     requires { ⌜ Lawful (now index) ⌝ }
     ensures { λ m. ⌜ Decides (NoEntry (now (index .entry)) (now (times .entry))) m ⌝ }
 {
@@ -39,7 +39,7 @@ pub fn entry_missing(index: &[u8], times: &[u32]) -> bool
 }
 
 // Whether an entry anywhere in the list is smaller than the one before.
-pub fn descend(times: &[u32]) -> bool
+fn descend(times: &[u32]) -> bool
     ensures { λ d. ⌜ Decides (TimesDescend (now (times .entry))) d ⌝ }
 {
     let mut i = 1;
@@ -50,4 +50,20 @@ pub fn descend(times: &[u32]) -> bool
         i += 1;
     }
     false
+}
+
+// The number of the first reason for which the times of a lawful index are refused, or 0. Both passes are made before either is judged.
+pub fn refusal(index: &[u8], times: &[u32]) -> u32
+    requires { ⌜ Lawful (now index) ⌝ }
+    ensures { λ r. ⌜ Verdict (timesTable (now (index .entry)) (now (times .entry))) r ⌝ }
+{
+    let missing = entry_missing(index, times);
+    let smaller = descend(times);
+    if missing {
+        return 20;
+    }
+    if smaller {
+        return 21;
+    }
+    0
 }

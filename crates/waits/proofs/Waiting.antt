@@ -7,7 +7,7 @@ use lib.ListN.{length}
 use Rattle.meaning.specs.declared.Figures.{Figures}
 use Rattle.meaning.specs.Day.{bodyOf}
 use Rattle.meaning.specs.Waits.{callName, boardName, cancelName, trafficOf, traffic, Figured, noFigures}
-use Rattle.meaning.specs.Refusals.{Given, Clear, Lawful, clear, given, checkTable, timesTable, waitsTable}
+use Rattle.meaning.specs.Refusals.{Clear, Lawful, Verdict, clear, given, checkTable, timesTable, waitsTable}
 use Rattle.meaning.specs.Promises.{Checked, Tabled, untold, told}
 use Rattle.meaning.specs.Fit.{Sound}
 use Rattle.meaning.proofs.Laws.Table.{given-first, given-after, clear-both}
@@ -21,8 +21,9 @@ module _ (b times : List ℕ) where
 
   module _ (law : Lawful b) where
     -- The times are refused.
-    pub refuse-times : (n : ℕ) {f : Figures} → Given (timesTable b times) n → f ≡ noFigures n → Tabled b times f
-    refuse-times n g e = untold (given-after (checkTable b) (timesTable b times) n law g) e
+    pub refuse-times : {n : ℕ} {f : Figures} → Verdict (timesTable b times) n → n ≢ 0 → f ≡ noFigures n → Tabled b times f
+    refuse-times (clear c) some e = absurd (some refl)
+    refuse-times {n} (given g) some e = untold (given-after (checkTable b) (timesTable b times) n law g) e
 
     -- Nothing is refused, and the three bodies are those of the day's calls, boardings and cancellations.
     module _ (c : Clear (timesTable b times)) {calls boards cancels : List ℕ} (is-calls : calls ≡ bodyOf b callName) (is-boards : boards ≡ bodyOf b boardName) (is-cancels : cancels ≡ bodyOf b cancelName) where

@@ -11,11 +11,9 @@ pub fn waits(index: &[u8], times: &[u32]) -> Figures
     if wrong != 0 {
         return Figures::none(wrong);
     }
-    if times::entry_missing(index, times) {
-        return Figures::none(20);
-    }
-    if times::descend(times) {
-        return Figures::none(21);
+    let untimely = times::refusal(index, times);
+    if untimely != 0 {
+        return Figures::none(untimely);
     }
     tally::tally(
         lookup(index, b"call"),

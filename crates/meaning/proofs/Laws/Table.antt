@@ -6,7 +6,7 @@ use mathlib.Core.Logic.{_⊎_, inl, inr, ⊎-elim}
 use mathlib.Core.Bool.{Bool, true, false}
 use mathlib.Core.List.{List}
 use Rattle.meaning.specs.Answers.{Decides, holds, fails}
-use Rattle.meaning.specs.Refusals.{Table, end, row, Given, Clear, Verdict, clear, given, Lawful, followed, checkTable, questionTable, callTable, waitsTable}
+use Rattle.meaning.specs.Refusals.{Table, end, row, Given, Clear, Verdict, clear, given, Lawful, followed, checkTable, questionTable, callTable, timesTable, waitsTable}
 use Rattle.meaning.specs.Promises.{Checked}
 
 -- A table gives at most one number.
@@ -66,6 +66,9 @@ check-rising b = (omega arith, (omega arith, (omega arith, (omega arith, (omega 
 
 pub question-rising : (text : List ℕ) → Rising 0 (questionTable text)
 question-rising text = (omega arith, (omega arith, (omega arith, tt)))
+
+pub times-rising : (b times : List ℕ) → Rising 0 (timesTable b times)
+times-rising b times = (omega arith, (omega arith, tt))
 
 pub waits-rising : (b times : List ℕ) → Rising 0 (waitsTable b times)
 waits-rising b times = (omega arith, (omega arith, (omega arith, (omega arith, (omega arith, (omega arith, (omega arith, (omega arith, tt))))))))

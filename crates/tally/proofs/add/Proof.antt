@@ -12,7 +12,10 @@ enum-known-outcome : tie.Need-enum-known-outcome
 enum-known-outcome c = search needs
 
 wait-requires : tie.Need-wait-requires
-wait-requires c κs = let s = c .before .before .before .before in subst (Timed (s .args .times .now) (s .args .start)) (c .before .outcome .given .1) (s .pre .1)
+wait-requires c κs =
+    let s = c .before .before .before .before in
+    let t = subst (Timed (s .args .times .now) (s .args .start)) (c .before .outcome .given .1) (s .pre .1) in
+    (omega (arith, t .0), omega (arith, t .0, t .1), omega (arith, t .2))
 
 waited-requires : tie.Need-waited-requires
 waited-requires c κs = search needs
@@ -24,7 +27,10 @@ enum-known-outcome-2 : tie.Need-enum-known-outcome-2
 enum-known-outcome-2 c = search needs
 
 wait-requires-2 : tie.Need-wait-requires-2
-wait-requires-2 c κs = let s = c .before .before .before .before in subst (Timed (s .args .times .now) (s .args .start)) (c .before .outcome2 .given .1) (s .pre .1)
+wait-requires-2 c κs =
+    let s = c .before .before .before .before in
+    let t = subst (Timed (s .args .times .now) (s .args .start)) (c .before .outcome2 .given .1) (s .pre .1) in
+    (omega (arith, t .0), omega (arith, t .0, t .1), omega (arith, t .2))
 
 waited-requires-2 : tie.Need-waited-requires-2
 waited-requires-2 c κs = search needs

@@ -1,4 +1,5 @@
--- `times::ends_past` meets its contract. The loop's invariant: of the first i labels none ends past the entries.
+-- `times::ends_past` meets its contract. The loop's invariant: of the first i labels none ends past the entries. The need of the call is given by
+-- its place, so that whatever number is compared has to be the label's end.
 use Prim.Native.Nat.{ℕ, _-_, _≤_, _<_}
 use native.Mathlib.Omega.{arith}
 use borrow.Author.Count.{below-more}
@@ -17,16 +18,13 @@ abbrev μ-loop : tie.MeasureT-loop
 loop-holds : tie.Need-loop-holds Inv-loop μ-loop
 loop-holds c = λ k l. absurd (omega arith)
 
-end-at-requires : tie.Need-end-at-requires Inv-loop μ-loop
-end-at-requires c κs = search needs
-
 cast-if2 : tie.Need-cast-if2 Inv-loop μ-loop
 cast-if2 c = search needs
 
 returns : tie.Need-returns Inv-loop μ-loop
 returns c =
     let l = c .before .before .before .before in
-    holds (l .loop .i, omega arith, omega (arith, c .if2 .taken, c .before .end-at .ensures .0))
+    holds (l .loop .i, omega arith, omega arith)
 
 add-i : tie.Need-add-i Inv-loop μ-loop
 add-i c = search needs
@@ -35,7 +33,7 @@ loop-less : tie.Need-loop-less Inv-loop μ-loop
 loop-less c = search needs
 
 loop-again : tie.Need-loop-again Inv-loop μ-loop
-loop-again c = below-more _ _ (c .before .before .before .before .loop .inv) (λ h. omega (arith, h, c .if2 .left, c .before .end-at .ensures .0))
+loop-again c = below-more _ _ (c .before .before .before .before .loop .inv) (λ h. omega arith)
 
 returns-2 : tie.Need-returns-2 Inv-loop μ-loop
 returns-2 c = fails (λ h. c .before .before .loop .inv (h .0) (omega (arith, c .if1 .left, h .1)) (h .2))
@@ -47,7 +45,7 @@ ends-past-spec =
     Inv-loop
     μ-loop
     loop-holds
-    end-at-requires
+    (λ c κs. search needs)
     cast-if2
     returns
     add-i

@@ -1,12 +1,8 @@
 -- `waits::waits` meets its contract: each part's promise is a part of the call's.
 use native.Mathlib.Omega.{arith}
-use mathlib.Core.Path.{refl}
-use mathlib.Core.Logic.{inl, inr}
 use borrow.Author.Needs.{needs}
 use Rattle.meaning.specs.Refusals.{Lawful, Clear, timesTable}
-use Rattle.meaning.specs.Waits.{NoEntry}
-use Rattle.meaning.proofs.Decide.{if-true, if-false}
-use Rattle.meaning.proofs.Laws.Table.{checked-lawful}
+use Rattle.meaning.proofs.Laws.Table.{checked-lawful, times-rising, zero-clear}
 use Rattle.waits.proofs.Waiting.{refuse-index, refuse-times, bodies-sound, give-table}
 use Rattle.waits.proofs.waits.Statement.{statement}
 use Rattle.waits.proofs.waits.Tie as tie
@@ -21,14 +17,10 @@ law e = checked-lawful (start e .args .index .now) _ (omega (arith, e .if1 .left
 abbrev lawful : tie.Else2 → tie.Else1
 lawful e = e .before .before
 
-all-timed : (e : tie.Else2) → NoEntry (start (lawful e) .args .index .now) (start (lawful e) .args .times .now) → ⊥
-all-timed e = if-false (e .before .entry-missing .ensures) (e .if2 .left)
-
-abbrev timed : tie.Else3 → tie.Else2
-timed e = e .before .before
-
-times-clear : (e : tie.Else3) → Clear (timesTable (start (lawful (timed e)) .args .index .now) (start (lawful (timed e)) .args .times .now))
-times-clear e = (all-timed (timed e), (if-false (e .before .descend .ensures) (e .if3 .left), tt))
+timed : (e : tie.Else2) → Clear (timesTable (start (lawful e) .args .index .now) (start (lawful e) .args .times .now))
+timed e =
+    let s = start (lawful e) in
+    zero-clear (timesTable (s .args .index .now) (s .args .times .now)) (times-rising (s .args .index .now) (s .args .times .now)) _ (omega (arith, e .if2 .left)) (e .before .refusal .ensures)
 
 check-requires : tie.Need-check-requires
 check-requires c κs = search needs
@@ -39,47 +31,42 @@ none-requires c κs = search needs
 returns : tie.Need-returns
 returns c = refuse-index _ _ (c .before .before .check .ensures) (λ zero. omega (arith, zero, c .before .if1 .taken)) (c .none .ensures)
 
-entry-missing-requires : tie.Need-entry-missing-requires
-entry-missing-requires c κs = law c
+refusal-requires : tie.Need-refusal-requires
+refusal-requires c κs = law c
 
 none-requires-2 : tie.Need-none-requires-2
 none-requires-2 c κs = search needs
 
 returns-2 : tie.Need-returns-2
-returns-2 c = refuse-times _ _ (law (c .before .before .before)) _ (inl (if-true (c .before .before .entry-missing .ensures) (c .before .if2 .taken), refl)) (c .none2 .ensures)
-
-descend-requires : tie.Need-descend-requires
-descend-requires c κs = search needs
-
-none-requires-3 : tie.Need-none-requires-3
-none-requires-3 c κs = search needs
-
-returns-3 : tie.Need-returns-3
-returns-3 c = let e = c .before .before .before in refuse-times _ _ (law (lawful e)) _ (inr (all-timed e, inl (if-true (c .before .before .descend .ensures) (c .before .if3 .taken), refl))) (c .none3 .ensures)
+returns-2 c = refuse-times _ _ (law (c .before .before .before)) (c .before .before .refusal .ensures) (λ zero. omega (arith, zero, c .before .if2 .taken)) (c .none2 .ensures)
 
 slice-aggregate-lookup : tie.Need-slice-aggregate-lookup
 slice-aggregate-lookup c = search needs
 
 lookup-requires : tie.Need-lookup-requires
-lookup-requires c κs = law (lawful (timed (c .before)))
+lookup-requires c κs = law (lawful (c .before))
 
 slice-aggregate-lookup-2 : tie.Need-slice-aggregate-lookup-2
 slice-aggregate-lookup-2 c = search needs
 
 lookup-requires-2 : tie.Need-lookup-requires-2
-lookup-requires-2 c κs = law (lawful (timed (c .before .before .before)))
+lookup-requires-2 c κs = law (lawful (c .before .before .before))
 
 slice-aggregate-lookup-3 : tie.Need-slice-aggregate-lookup-3
 slice-aggregate-lookup-3 c = search needs
 
 lookup-requires-3 : tie.Need-lookup-requires-3
-lookup-requires-3 c κs = law (lawful (timed (c .before .before .before .before .before)))
+lookup-requires-3 c κs = law (lawful (c .before .before .before .before .before))
 
 tally-requires : tie.Need-tally-requires
-tally-requires c κs = let e = c .before .before .before .before .before .before in bodies-sound _ (start (lawful (timed e)) .args .times .now) (law (lawful (timed e))) (times-clear e) (c .before .before .before .before .lookup .ensures) (c .before .before .lookup2 .ensures) (c .lookup3 .ensures)
+tally-requires c κs =
+    let e = c .before .before .before .before .before .before in
+    bodies-sound _ (start (lawful e) .args .times .now) (law (lawful e)) (timed e) (c .before .before .before .before .lookup .ensures) (c .before .before .lookup2 .ensures) (c .lookup3 .ensures)
 
-returns-4 : tie.Need-returns-4
-returns-4 c = let e = c .before .before .before .before .before .before .before in give-table _ (start (lawful (timed e)) .args .times .now) (law (lawful (timed e))) (times-clear e) (c .before .before .before .before .before .lookup .ensures) (c .before .before .before .lookup2 .ensures) (c .before .lookup3 .ensures) (c .tally .ensures)
+returns-3 : tie.Need-returns-3
+returns-3 c =
+    let e = c .before .before .before .before .before .before .before in
+    give-table _ (start (lawful e) .args .times .now) (law (lawful e)) (timed e) (c .before .before .before .before .before .lookup .ensures) (c .before .before .before .lookup2 .ensures) (c .before .lookup3 .ensures) (c .tally .ensures)
 
 pub waits-spec : {M : Type 1} → statement M
 waits-spec =
@@ -88,12 +75,9 @@ waits-spec =
     check-requires
     none-requires
     returns
-    entry-missing-requires
+    refusal-requires
     none-requires-2
     returns-2
-    descend-requires
-    none-requires-3
-    returns-3
     slice-aggregate-lookup
     lookup-requires
     slice-aggregate-lookup-2
@@ -101,4 +85,4 @@ waits-spec =
     slice-aggregate-lookup-3
     lookup-requires-3
     tally-requires
-    returns-4)
+    returns-3)

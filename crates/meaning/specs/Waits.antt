@@ -67,6 +67,10 @@ pub record Ends (w : Traffic) (i : ℕ) (e : Ending) (j : ℕ) : Type 0 where
 abbrev pub Ended : Traffic → Ending → ℕ → Type 0
 Ended w e i = (j : ℕ) × Ends w i e j
 
+-- A call that is boarded or cancelled is closed.
+abbrev pub Closed : Traffic → ℕ → Type 0
+Closed w i = Ended w board i ⊎ Ended w cancel i
+
 -- A call with neither inside is open.
 abbrev pub Open : Traffic → ℕ → Type 0
 Open w i = (e : Ending) (j : ℕ) → Within w i e j → ⊥
@@ -95,7 +99,7 @@ pub data Longest (Has : ℕ → ℕ → Type 0) (n : ℕ) : ℕ → Type 0 where
   nobody : ((k e : ℕ) → k < n → Has k e → ⊥) → Longest Has n 0
 
 -- The figures of the first n calls: how many they are, and how many of them are boarded, cancelled and open; their total wait, and the
--- longest; and, for the mean, over how many the total is: those that are boarded or cancelled.
+-- longest; and, for the mean, over how many the total is: those that are closed.
 pub record Figured (w : Traffic) (n : ℕ) (f : Figures) : Type 0 where
   pub refusal : f .refusal ≡ 0
   pub calls : f .calls ≡ n
@@ -104,7 +108,7 @@ pub record Figured (w : Traffic) (n : ℕ) (f : Figures) : Type 0 where
   pub left-open : Number (Open w) n (f .left_open)
   pub total : Sum (Waited w) n (f .total)
   pub longest : Longest (Waited w) n (f .longest)
-  pub over : Number (λ i. Ended w board i ⊎ Ended w cancel i) n (f .over)
+  pub over : Number (Closed w) n (f .over)
 
 -- On refusal there is its number, and all figures are 0.
 abbrev pub noFigures : ℕ → Figures

@@ -1,5 +1,5 @@
 -- What one call more makes of the figures, by what becomes of it.
-use Prim.Native.Nat.{ℕ, _+_, _*_, _-_, _≤_, _<_}
+use Prim.Native.Nat.{ℕ, _+_, _*_, _-_, _≤_}
 use native.Mathlib.Omega.{arith}
 use mathlib.Core.Path.{_≡_, refl, sym, ap, _∙_}
 use mathlib.Core.List.{List}
@@ -11,7 +11,6 @@ use Rattle.meaning.specs.Waits.{Ending, board, cancel, Traffic, trafficOf, Ends
 use Rattle.meaning.specs.Fit.{Sound}
 use Rattle.meaning.proofs.Laws.Sum.{number-within}
 use Rattle.meaning.proofs.Laws.Waits.{figured-ended, figured-open}
-use Rattle.meaning.proofs.Laws.AddUp.{waits-forward}
 use Rattle.tally.specs.declared.Outcome.{Outcome}
 use Rattle.tally.specs.declared.Outcome.the-variants.{Boarded, Cancelled, Open}
 use Rattle.tally.specs.Sights.{Becomes}
@@ -27,6 +26,14 @@ figured-small x few total = record {
   over = omega (arith, number-within (x .over));
   total = omega arith;
 }
+
+-- A wait between two numbers is the wait between those that they are equal to.
+pub wait-is : (times : List ℕ) (s u d : ℕ) → d ≡ at times u - at times s → (start until : ℕ) → s ≡ start → u ≡ until → d ≡ at times until - at times start
+wait-is times s u d e start until from to = e ∙ (λ k. at times (to k) - at times (from k))
+
+-- A wait that is added leaves room for one more boarded call, and for one more cancelled call.
+pub waited-small : {f g : Figures} (d : ℕ) → Small f → g ≡ waitedFor d f → (g .boarded ≤ mostLabels) × (g .cancelled ≤ mostLabels)
+waited-small d small is = (omega (arith, ap (λ (h : Figures). h .boarded) is, small .boarded), omega (arith, ap (λ (h : Figures). h .cancelled) is, small .cancelled))
 
 -- What is put together of the parts is what the call adds, by its outcome.
 module _ (time : ℕ → ℕ) (start : ℕ) (f : Figures) (o : Outcome) where
@@ -44,14 +51,13 @@ module _ (calls boards cancels times : List ℕ) (sound : Sound (trafficOf calls
   w = trafficOf calls boards cancels times
 
   -- The wait of a call that a record ends has its times.
-  ends-timed : i < w .calls .count → (e : Ending) (j s : ℕ) → Ends w i e j → s ≡ w .ended e .label j .start → WaitTimed times (w .calls .label i .start) s
-  ends-timed l e j s x is =
-      (sound .calls-timed i l, omega (arith, is, sound .ended-timed e j (x .within .is)), omega (arith, ap (at times) is, waits-forward w sound x))
+  ends-timed : (e : Ending) (j s : ℕ) → Ends w i e j → s ≡ w .ended e .label j .start → WaitTimed times (w .calls .label i .start) s
+  ends-timed e j s x is = record { onward = omega (arith, is, x .within .inside .after); within = omega (arith, is, sound .ended-timed e j (x .within .is)); forward = sound .forward }
 
-  pub becomes-timed : i < w .calls .count → (r : Outcome) → Becomes w i r → Timed times (w .calls .label i .start) r
-  becomes-timed l (Boarded s) (j, x, is) = ends-timed l board j s x is
-  becomes-timed l (Cancelled s) (j, x, is) = ends-timed l cancel j s x is
-  becomes-timed l Open x = tt
+  pub becomes-timed : (r : Outcome) → Becomes w i r → Timed times (w .calls .label i .start) r
+  becomes-timed (Boarded s) (j, x, is) = ends-timed board j s x is
+  becomes-timed (Cancelled s) (j, x, is) = ends-timed cancel j s x is
+  becomes-timed Open x = tt
 
   -- The figures of the calls before, with what the call adds, are those with the call.
   pub figured-added : {f : Figures} → Figured w i f → (r : Outcome) → Becomes w i r → (k : ℕ) → k ≡ i + 1 → Figured w k (added (at times) (w .calls .label i .start) f r)

@@ -78,7 +78,7 @@ module _ (calls boards cancels times : List ℕ) (sound : Sound (trafficOf calls
       became = becomes w i sound (b .start) (d .start) (subst (λ (x : Label). FirstStart (inBody boards) x (b .start)) is (sees-b .first)) (subst (λ (x : Label). FirstStart (inBody cancels) x (d .start)) is (sees-d .first)) r decided
 
       pub turning-timed : Timed times (c .start) r
-      turning-timed = subst (λ (x : Label). Timed times (x .start) r) (sym is) (becomes-timed calls boards cancels times sound i l r became)
+      turning-timed = subst (λ (x : Label). Timed times (x .start) r) (sym is) (becomes-timed calls boards cancels times sound i r became)
 
       -- The call is added, and the next one's turn begins.
       pub turning-on : (g : Figures) → (g ≡ added (at times) (c .start) f r) × (g .total ≤ f .total + 4_294_967_295) → (k : ℕ) → k ≡ i + 1 → Turning calls boards cancels times g (b .place) (d .place) k

@@ -17,9 +17,11 @@ pub record Small (f : Figures) : Type 0 where
   pub over : f .over ≤ mostLabels
   pub total : f .total ≤ mostLabels * 4_294_967_295
 
--- The call's start and the number at which its wait ends have entries, and the wait is not negative.
-abbrev pub WaitTimed : List ℕ → ℕ → ℕ → Type 0
-WaitTimed times start until = (start < length times) × (until < length times) × (at times start ≤ at times until)
+-- A wait that runs from one number to another has its times: it ends no sooner than it starts, its end has an entry, and times do not descend.
+pub record WaitTimed (times : List ℕ) (start until : ℕ) : Type 0 where
+  pub onward : start ≤ until
+  pub within : until < length times
+  pub forward : (m n : ℕ) → m ≤ n → n < length times → at times m ≤ at times n
 
 -- So it is for the outcome, where there is a wait.
 abbrev pub Timed : List ℕ → ℕ → Outcome → Type 0

@@ -4,7 +4,7 @@ use native.Mathlib.Omega.{arith}
 use mathlib.Core.Path.{_≡_, refl}
 use mathlib.Core.Logic.{_⊎_, inl, inr, ⊎-elim}
 use Rattle.meaning.specs.declared.Figures.{Figures}
-use Rattle.meaning.specs.Waits.{Ending, board, cancel, Traffic, Within, Ends, Ended, Open, waitUntil, Figured}
+use Rattle.meaning.specs.Waits.{Ending, board, cancel, Traffic, Within, Ends, Ended, Closed, Open, waitUntil, Figured}
 use Rattle.meaning.specs.Fit.{Sound}
 use Rattle.meaning.proofs.Decide.{or-not, le-decides}
 use Rattle.meaning.proofs.Laws.Sum.{ones, sum-parts, number-all}
@@ -34,7 +34,7 @@ module _ (w : Traffic) where
       -- Over how many the total is: the boarded and the cancelled.
       pub over-parts : f .boarded + f .cancelled ≡ f .over
       over-parts =
-          sum-parts (ones (λ i. Ended w board i ⊎ Ended w cancel i)) (λ i d e p q. not-both w sound (p .0) (q .0)) (λ i d p. (inl (p .0), p .1)) (λ i d q. (inr (q .0), q .1))
+          sum-parts (ones (Closed w)) (λ i d e p q. not-both w sound (p .0) (q .0)) (λ i d p. (inl (p .0), p .1)) (λ i d q. (inr (q .0), q .1))
           (λ i p q d r. ⊎-elim (λ h. p d (h, r .1)) (λ h. q d (h, r .1)) (r .0)) (x .boarded) (x .cancelled) (x .over)
 
       -- Boarded, cancelled and open add up to the calls.
@@ -48,6 +48,6 @@ module _ (w : Traffic) where
                 (λ i p q d r. q 1 (unended-open (unended i p), refl)) (x .over) (x .left-open) (number-all n),
           )
         where
-          unended : (i : ℕ) → ((d : ℕ) → (Ended w board i ⊎ Ended w cancel i) × (d ≡ 1) → ⊥) → (e : Ending) → Ended w e i → ⊥
+          unended : (i : ℕ) → ((d : ℕ) → Closed w i × (d ≡ 1) → ⊥) → (e : Ending) → Ended w e i → ⊥
           unended i p board h = p 1 (inl h, refl)
           unended i p cancel h = p 1 (inr h, refl)

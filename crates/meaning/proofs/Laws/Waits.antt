@@ -4,7 +4,7 @@ use native.Mathlib.Omega.{arith}
 use mathlib.Core.Path.{_≡_, refl, sym, _∙_}
 use mathlib.Core.Logic.{_⊎_, inl, inr, ⊎-elim}
 use Rattle.meaning.specs.declared.Figures.{Figures}
-use Rattle.meaning.specs.Waits.{Ending, board, cancel, Traffic, ofEnding, Ends, Ended, Open, waitUntil, Waited, none, Sum, Number, Longest, nobody, Figured, noFigures}
+use Rattle.meaning.specs.Waits.{Ending, board, cancel, Traffic, ofEnding, Ends, Ended, Closed, Open, waitUntil, Waited, none, Sum, Number, Longest, nobody, Figured, noFigures}
 use Rattle.meaning.specs.Fit.{Sound}
 use Rattle.meaning.proofs.Laws.Sum.{OneEach, ones, sum-one, sum-kept, sum-more, longest-one, longest-kept, longest-more}
 
@@ -28,7 +28,7 @@ module _ (w : Traffic) where
   figured-one x y =
       figures-≡ (x .refusal ∙ sym (y .refusal)) (x .calls ∙ sym (y .calls)) (sum-one (ones (Ended w board)) (x .boarded) (y .boarded)) (sum-one (ones (Ended w cancel)) (x .cancelled) (y .cancelled))
       (sum-one (ones (Open w)) (x .left-open) (y .left-open)) (sum-one waited-one (x .total) (y .total)) (longest-one (x .longest) (y .longest))
-      (sum-one (ones (λ i. Ended w board i ⊎ Ended w cancel i)) (x .over) (y .over))
+      (sum-one (ones (Closed w)) (x .over) (y .over))
 
   -- The figures of no calls.
   pub figured-none : Figured w 0 (noFigures 0)
@@ -60,7 +60,7 @@ module _ (w : Traffic) where
         over = sum-more k more 1 over (either e h, refl) (x .over);
       }
         where
-          either : (e : Ending) → Ends w n e j → Ended w board n ⊎ Ended w cancel n
+          either : (e : Ending) → Ends w n e j → Closed w n
           either board h = inl (j, h)
           either cancel h = inr (j, h)
 

@@ -4,7 +4,7 @@ use mathlib.Core.Path.{ap, subst, _∙_}
 use borrow.Author.Needs.{needs}
 use Rattle.meaning.specs.declared.Figures.{Figures}
 use Rattle.tally.specs.Adding.{Timed}
-use Rattle.tally.proofs.Counting.{added-boarded, added-cancelled, added-open}
+use Rattle.tally.proofs.Counting.{wait-is, waited-small, added-boarded, added-cancelled, added-open}
 use Rattle.tally.proofs.add.Statement.{statement}
 use Rattle.tally.proofs.add.Tie as tie
 
@@ -15,13 +15,13 @@ wait-requires : tie.Need-wait-requires
 wait-requires c κs =
     let s = c .before .before .before .before in
     let t = subst (Timed (s .args .times .now) (s .args .start)) (c .before .outcome .given .1) (s .pre .1) in
-    (omega (arith, t .0), omega (arith, t .0, t .1), omega (arith, t .2))
+    record { onward = omega (arith, t .onward); within = omega (arith, t .onward, t .within); forward = t .forward }
 
 waited-requires : tie.Need-waited-requires
 waited-requires c κs = search needs
 
 add-sum : tie.Need-add-sum
-add-sum c = record { fits = omega (arith, ap (λ (f : Figures). f .boarded) (c .before .waited .ensures), c .before .before .before .before .before .before .before .pre .0 .boarded) }
+add-sum c = let (boarded, cancelled) = waited-small _ (c .before .before .before .before .before .before .before .pre .0) (c .before .waited .ensures) in record { fits = omega (arith, boarded, cancelled) }
 
 enum-known-outcome-2 : tie.Need-enum-known-outcome-2
 enum-known-outcome-2 c = search needs
@@ -30,13 +30,13 @@ wait-requires-2 : tie.Need-wait-requires-2
 wait-requires-2 c κs =
     let s = c .before .before .before .before in
     let t = subst (Timed (s .args .times .now) (s .args .start)) (c .before .outcome2 .given .1) (s .pre .1) in
-    (omega (arith, t .0), omega (arith, t .0, t .1), omega (arith, t .2))
+    record { onward = omega (arith, t .onward); within = omega (arith, t .onward, t .within); forward = t .forward }
 
 waited-requires-2 : tie.Need-waited-requires-2
 waited-requires-2 c κs = search needs
 
 add-sum-2 : tie.Need-add-sum-2
-add-sum-2 c = record { fits = omega (arith, ap (λ (f : Figures). f .cancelled) (c .before .waited2 .ensures), c .before .before .before .before .before .before .before .pre .0 .cancelled) }
+add-sum-2 c = let (boarded, cancelled) = waited-small _ (c .before .before .before .before .before .before .before .pre .0) (c .before .waited2 .ensures) in record { fits = omega (arith, boarded, cancelled) }
 
 enum-told : tie.Need-enum-told
 enum-told c = search needs
@@ -48,10 +48,16 @@ add-sum-4 : tie.Need-add-sum-4
 add-sum-4 c = search needs
 
 returns : tie.Need-returns
-returns c = (added-boarded _ _ _ _ (c .before .before .before .before .outcome .given .1) (c .before .before .wait .ensures .0) (c .before .waited .ensures), omega (arith, ap (λ (f : Figures). f .total) (c .before .waited .ensures), c .before .before .wait .ensures .1))
+returns c =
+    let s = c .before .before .before .before .before .before .before in
+    let o = c .before .before .before .before .outcome .given in
+    (added-boarded _ _ _ _ (o .1) (wait-is (s .args .times .now) _ _ _ (c .before .before .wait .ensures .0) (s .args .start) (o .0 .0) (omega arith) (omega arith)) (c .before .waited .ensures), omega (arith, ap (λ (f : Figures). f .total) (c .before .waited .ensures), c .before .before .wait .ensures .1))
 
 returns-2 : tie.Need-returns-2
-returns-2 c = (added-cancelled _ _ _ _ (c .before .before .before .before .outcome2 .given .1) (c .before .before .wait2 .ensures .0) (c .before .waited2 .ensures), omega (arith, ap (λ (f : Figures). f .total) (c .before .waited2 .ensures), c .before .before .wait2 .ensures .1))
+returns-2 c =
+    let s = c .before .before .before .before .before .before .before in
+    let o = c .before .before .before .before .outcome2 .given in
+    (added-cancelled _ _ _ _ (o .1) (wait-is (s .args .times .now) _ _ _ (c .before .before .wait2 .ensures .0) (s .args .start) (o .0 .0) (omega arith) (omega arith)) (c .before .waited2 .ensures), omega (arith, ap (λ (f : Figures). f .total) (c .before .waited2 .ensures), c .before .before .wait2 .ensures .1))
 
 returns-3 : tie.Need-returns-3
 returns-3 c = (added-open _ _ _ _ (c .before .before .enum-told .given .1), omega arith)

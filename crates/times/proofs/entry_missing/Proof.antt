@@ -12,7 +12,7 @@ use Rattle.meaning.proofs.Decide.{if-true, if-false}
 use Rattle.contents.specs.Parts.{Placed, InIndex}
 use Rattle.contents.proofs.Placing.{lawful-placed}
 use Rattle.times.specs.Entries.{EndsPast}
-use Rattle.times.proofs.Looking.{missing-by, none-missing}
+use Rattle.times.proofs.Looking.{missing-by, none-missing, none-past}
 use Rattle.times.proofs.entry_missing.Statement.{statement}
 use Rattle.times.proofs.entry_missing.Tie as tie
 
@@ -42,12 +42,12 @@ list-of-requires : tie.Need-list-of-requires Inv-loop μ-loop
 list-of-requires c κs = omega (arith, row-lt c, within c .rows)
 
 ends-past-requires : tie.Need-ends-past-requires Inv-loop μ-loop
-ends-past-requires c κs = subst (InIndex (start (c .before) .args .index .now)) (sym (c .list-of .ensures)) (within (c .before) .held (c .before .before .loop .r) (row-lt (c .before)))
+ends-past-requires c κs = subst (InIndex (start (c .before) .args .index .now)) (sym (c .list-of .ensures)) (within (c .before) .held _ (omega (arith, row-lt (c .before))))
 
 returns : tie.Need-returns Inv-loop μ-loop
 returns c =
     let i = c .before .before .before in
-    holds (missing-by (start i .args .index .now) (start i .args .times .now) (i .before .loop .r) (row-lt i) (subst (λ (l : Body). EndsPast (start i .args .index .now) l (length (start i .args .times .now))) (c .before .before .list-of .ensures) (if-true (c .before .ends-past .ensures) (c .if1 .taken))))
+    holds (missing-by (start i .args .index .now) (start i .args .times .now) _ (omega (arith, row-lt i)) (subst (λ (l : Body). EndsPast (start i .args .index .now) l (length (start i .args .times .now))) (c .before .before .list-of .ensures) (if-true (c .before .ends-past .ensures) (c .if1 .taken))))
 
 add-r : tie.Need-add-r Inv-loop μ-loop
 add-r c = search needs
@@ -58,7 +58,7 @@ loop-less c = search needs
 loop-again : tie.Need-loop-again Inv-loop μ-loop
 loop-again c =
     let i = c .before .before .before in
-    below-more _ _ (i .before .loop .inv) (subst (λ (l : Body). EndsPast (start i .args .index .now) l (length (start i .args .times .now)) → ⊥) (c .before .before .list-of .ensures) (if-false (c .before .ends-past .ensures) (c .if1 .left)))
+    below-more _ _ (i .before .loop .inv) (none-past (start i .args .index .now) _ _ (i .before .loop .r) (c .before .before .list-of .ensures) (omega arith) (if-false (c .before .ends-past .ensures) (c .if1 .left)))
 
 returns-2 : tie.Need-returns-2 Inv-loop μ-loop
 returns-2 c =

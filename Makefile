@@ -1,4 +1,4 @@
-# make demo: four questions put to the small day, and its waiting table.  make test: the whole gate.  make bench: the speed, beside a twin and libxml2.
+# make demo: four questions put to the small day, and its waiting table.  make test: the whole gate.
 # make bench: the speed, beside a twin and libxml2.
 .PHONY: demo test bench library program
 

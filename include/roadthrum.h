@@ -38,7 +38,7 @@ enum {
 #define ROADTHRUM_NO_STEP 32
 
 /*
- * The numbers of `figures`, which the waiting call writes. Before them, at place 0, stands the refusal, or 0: ROADTHRUM_REFUSAL is the same
+ * The numbers of `figures`, which the waits call writes. Before them, at place 0, stands the refusal, or 0: ROADTHRUM_REFUSAL is the same
  * name and the same place as in `result`.
  */
 enum {
@@ -54,7 +54,7 @@ enum {
 /*
  * The refusals, in the order in which the checks run; the first that applies is given. All calls know the first six, which are of the
  * index, and the check call knows no others. Those of the question, 7 to 9, are of the answer and the evidence call; those of the times, 20
- * and 21, of the waiting call.
+ * and 21, of the waits call.
  */
 enum roadthrum_refusal {
     ROADTHRUM_TOO_SHORT = 1,      /* the index has fewer than 4 bytes */
@@ -106,7 +106,7 @@ void roadthrum_evidence(const uint8_t *index, size_t index_len, const uint8_t *q
                         uint32_t *rows, size_t rows_len, uint32_t result[5]);
 
 /*
- * The waiting call: the waiting table of a day, with those who gave up. `times` has the time of each number of the index, in milliseconds:
+ * The waits call: the waiting table of a day, with those who gave up. `times` has the time of each number of the index, in milliseconds:
  * entry i, counted from 0, is the time of the start or end i. Entries may be equal, and there may be more of them than numbers in use.
  *
  * What became of a `call` of the day is said by the `board` or `cancel` inside it that starts first, also where that lies in another `call`

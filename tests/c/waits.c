@@ -1,4 +1,4 @@
-/* The waiting call from C: the small day with times worked out by hand, each refusal that the call knows, and null pointers for what is empty. A
+/* The waits call from C: the small day with times worked out by hand, each refusal that the call knows, and null pointers for what is empty. A
    refusal leaves all figures 0, and nothing is written behind them. */
 #include <stdio.h>
 #include <string.h>

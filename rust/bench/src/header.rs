@@ -17,7 +17,7 @@ pub fn print(contenders: &Contenders) {
     how_the_twin_is_measured();
     if contenders.with_before() {
         println!("\nThe library as it was before is loaded as a shared library; it takes its turn, and has to agree as well.");
-        println!("One without a waiting call takes no part in that table.");
+        println!("One without a waits call takes no part in that table.");
     }
     if rival.is_some() {
         how_libxml2_is_measured();
@@ -27,7 +27,7 @@ pub fn print(contenders: &Contenders) {
 fn how_the_twin_is_measured() {
     println!(
         "\nEvery time is the least of at least {} runs that together took at least {:.1} s, or of fewer where they took over {} s; the \
-         library's and the twin's runs take turns. The answer, the evidence and the waiting call are timed whole, with the check of the \
+         library's and the twin's runs take turns. The answer, the evidence and the waits call are timed whole, with the check of the \
          index that each of them makes; what they take less the check stands in a table of its own. The buffers have ample room. The run \
          stops unless library and twin agree in every number of them.",
         timing::LEAST_RUNS,

@@ -6,7 +6,7 @@ use roadthrum::raw;
 /// A call for rows: index, question, place and the lent buffer.
 pub type Call = fn(&[u8], &[u8], u32, &mut [u32]) -> Outcome;
 
-/// The waiting call: index and times.
+/// The waits call: index and times.
 pub type Waiting = fn(&[u8], &[u32]) -> Waits;
 
 /// The four public calls.

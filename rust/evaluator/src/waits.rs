@@ -2,7 +2,7 @@
 
 use crate::index::{Index, Label};
 
-/// What the waiting call gives: its refusal or 0, and the figures, which are all 0 on a refusal.
+/// What the waits call gives: its refusal or 0, and the figures, which are all 0 on a refusal.
 #[derive(Clone, Copy, Debug, Default, PartialEq, Eq)]
 pub struct Waits {
     pub refusal: u32,

@@ -67,7 +67,7 @@ pub fn evidence(index: &[u8], question: &[u8], place: u32, buffer: &mut [u32]) -
     unsafe { numbers(roadthrum_evidence, index, question, place, buffer) }
 }
 
-/// The waiting call. Gives its refusal or 0, then the calls, the boarded, the cancelled and the open ones, the total wait, the longest, and
+/// The waits call. Gives its refusal or 0, then the calls, the boarded, the cancelled and the open ones, the total wait, the longest, and
 /// the number that the total is divided by for the mean.
 pub fn waits(index: &[u8], times: &[u32]) -> [u64; 8] {
     let mut figures = [u64::MAX; 8];

@@ -3,7 +3,7 @@
 use crate::contents::{find, Row};
 use crate::label::{started_from, Label, List};
 
-/// What the waiting call gives. A refusal has its number, and all figures are 0.
+/// What the waits call gives. A refusal has its number, and all figures are 0.
 #[derive(Clone, Copy, Debug, Default, PartialEq, Eq)]
 pub struct Waits {
     pub refusal: u32,

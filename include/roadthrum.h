@@ -111,8 +111,8 @@ void roadthrum_evidence(const uint8_t *index, size_t index_len, const uint8_t *q
  *
  * What became of a `call` of the day is said by the `board` or `cancel` inside it that starts first, also where that lies in another `call`
  * inside it: the `call` is boarded or cancelled, and with neither inside it is open. The wait runs from the start of the `call` to the
- * start of that record. Whoever gave up and pressed again inside the first `call` is counted with every press, each with a wait of its own.
- * A name without a row counts as one whose row has 0 labels.
+ * start of that record. Whoever gave up and pressed again inside the first `call` is counted with every press, and each press that is not
+ * open has a wait of its own. A name without a row counts as one whose row has 0 labels.
  *
  * `figures` gets eight numbers. The refusal is 0 or the number of the first refusal that applies, of the first six, ROADTHRUM_NO_ENTRY and
  * ROADTHRUM_TIMES_DESCEND. Look at it first: on a refusal all figures behind it are 0, just as on a day without calls. Else there follow

@@ -1,13 +1,14 @@
--- What every question put to a lawful day is, and what the traffic of every lawful day with its times is. No promise speaks of it: contracts of
--- inner functions do, so that they need name no byte.
-use Prim.Native.Nat.{ℕ, _≤_, _<_}
+-- What every question put to a lawful day is, what the traffic of every lawful day with its times is, and what one call more makes of figures. No
+-- promise speaks of it: contracts of inner functions do, so that they need name no byte.
+use Prim.Native.Nat.{ℕ, _+_, _≤_, _<_, max}
 use mathlib.Core.Path.{_≡_}
 use mathlib.Core.Logic.{_⊎_, _≢_}
+use Rattle.meaning.specs.declared.Figures.{Figures}
 use Rattle.meaning.specs.Limits.{mostLabels}
 use Rattle.meaning.specs.Labels.{Inside, Apart}
 use Rattle.meaning.specs.Notation.{from}
 use Rattle.meaning.specs.Picks.{Asked}
-use Rattle.meaning.specs.Waits.{Ending, board, cancel, Traffic}
+use Rattle.meaning.specs.Waits.{Ending, board, cancel, ofEnding, Traffic}
 
 -- What picks rest on: a step hangs from an earlier one, the returned step is one, the records of each step are ordered and ascend by
 -- start, and the records of two steps are the same one, or one lies inside the other, or they are apart.
@@ -19,8 +20,8 @@ pub record Fit (a : Asked) : Type 0 where
   pub laminar : (s i u j : ℕ) → i < a .count s → j < a .count u
       → (a .label s i ≡ a .label u j) ⊎ Inside (a .label s i) (a .label u j) ⊎ Inside (a .label u j) (a .label s i) ⊎ Apart (a .label s i) (a .label u j)
 
--- What the waiting table rests on: calls and the records of an ending ascend by start, what ends a wait is ordered and lies inside a call within
--- which it starts, no boarding starts where a cancellation does, each start has one of so many entries, and the times of these do not descend.
+-- What the waiting table rests on: there are no more calls than an index has room for, calls and the records of an ending ascend by start, what ends
+-- a wait is ordered and lies inside a call within which it starts, no boarding starts where a cancellation does, each start has one of so many entries, and the times of these do not descend.
 pub record Sound (w : Traffic) (entries : ℕ) : Type 0 where
   pub few : w .calls .count ≤ mostLabels
   pub calls-ascend : (i j : ℕ) → i < j → j < w .calls .count → w .calls .label i .start < w .calls .label j .start
@@ -32,3 +33,13 @@ pub record Sound (w : Traffic) (entries : ℕ) : Type 0 where
   pub calls-timed : (i : ℕ) → i < w .calls .count → w .calls .label i .start < entries
   pub ended-timed : (e : Ending) (j : ℕ) → j < w .ended e .count → w .ended e .label j .start < entries
   pub forward : (m n : ℕ) → m ≤ n → n < entries → w .time m ≤ w .time n
+
+-- The figures with one call more, which an ending ends after a wait of d.
+abbrev pub oneEnded : Ending → ℕ → Figures → Figures
+oneEnded e d f =
+    record { refusal = f .refusal; calls = f .calls + 1; boarded = f .boarded + ofEnding 1 0 e; cancelled = f .cancelled + ofEnding 0 1 e; left_open = f .left_open; total = f .total + d; longest = max (f .longest) d; over = f .over + 1 }
+
+-- The figures with one call more, which is open.
+abbrev pub oneOpen : Figures → Figures
+oneOpen f =
+    record { refusal = f .refusal; calls = f .calls + 1; boarded = f .boarded; cancelled = f .cancelled; left_open = f .left_open + 1; total = f .total; longest = f .longest; over = f .over }

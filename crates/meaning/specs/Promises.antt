@@ -16,8 +16,8 @@ abbrev pub Checked : List ℕ → ℕ → Type 0
 Checked b n = Verdict (checkTable b) n
 
 -- A call on an index b, a question and a place makes `exit` of the lent buffer `entry` and gives r: it refuses with the number of the
--- first reason of its table t that applies, or none applies and it gives a page and tells the unknown step. The two calls differ in what a
--- row is and in the room for rows.
+-- first reason of its table t that applies, or none applies and it gives a page and tells the unknown step. The two calls for rows
+-- differ in what a row is and in the room for rows.
 pub data Outcome (t : Table) (Row : Asked → ℕ → List ℕ → Type 0) (room : Asked → ℕ → ℕ) (b text : List ℕ) (place : ℕ) (entry exit : List ℕ) (r : Page) : Type 0 where
   refused : {n : ℕ} → Given t n → Refused n entry exit r → Outcome t Row room b text place entry exit r
   page : Clear t → (f : Follows text) → Paged (asked b (f .tree)) (Row (asked b (f .tree))) place (room (asked b (f .tree)) (length entry)) entry exit r

@@ -34,7 +34,7 @@ callTable b text = followed (checkTable b) (questionTable text)
 abbrev pub timesTable : List ℕ → List ℕ → Table
 timesTable b times = row 20 (NoEntry b times) (row 21 (TimesDescend times) end)
 
--- The table of the waits call.
+-- The table of the waits call: rows 1 to 6, then 20 and 21.
 abbrev pub waitsTable : List ℕ → List ℕ → Table
 waitsTable b times = followed (checkTable b) (timesTable b times)
 

@@ -10,7 +10,7 @@ use Rattle.meaning.specs.Bytes.{at}
 use Rattle.meaning.specs.Labels.{Inside, Place, labelOf, Holds}
 use Rattle.meaning.specs.Day.{labelAt, listsOf, bodyOf}
 
--- Records of one tag in order of start: how many there are, and the label of each.
+-- The records of one tag: how many there are, and the label of each.
 pub record Tagged : Type 0 where
   pub count : ℕ
   pub label : ℕ → Label
@@ -39,17 +39,19 @@ ofEnding boards cancels cancel = cancels
 abbrev pub trafficOf : List ℕ → List ℕ → List ℕ → List ℕ → Traffic
 trafficOf calls boards cancels times = record { calls = inBody calls; ended = λ e. inBody (ofEnding boards cancels e); time = at times }
 
--- The names `call`, `board` and `cancel`.
+-- The name `call`.
 abbrev pub callName : List ℕ
 callName = 99 ∷ 97 ∷ 108 ∷ 108 ∷ []
 
+-- The name `board`.
 abbrev pub boardName : List ℕ
 boardName = 98 ∷ 111 ∷ 97 ∷ 114 ∷ 100 ∷ []
 
+-- The name `cancel`.
 abbrev pub cancelName : List ℕ
 cancelName = 99 ∷ 97 ∷ 110 ∷ 99 ∷ 101 ∷ 108 ∷ []
 
--- The traffic of a day: the bodies of these names, of which one without a row is empty.
+-- The traffic of a day: the bodies of these three names, of which one without a row is empty.
 abbrev pub traffic : List ℕ → List ℕ → Traffic
 traffic b times = trafficOf (bodyOf b callName) (bodyOf b boardName) (bodyOf b cancelName) times
 

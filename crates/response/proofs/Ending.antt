@@ -1,4 +1,4 @@
--- From the page that the engine writes to the pages that the two calls promise.
+-- From the page that the engine writes to the pages that the two calls for rows promise.
 use Prim.Native.Nat.{ℕ, _/_, _≤_}
 use native.Mathlib.Omega.{arith}
 use mathlib.Core.Path.{sym, ap, subst, _∙_}

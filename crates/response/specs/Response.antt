@@ -1,4 +1,4 @@
--- What the two calls promise, by whether a row is whole.
+-- What the two calls for rows promise, by whether a row is whole.
 use Prim.Native.Nat.{ℕ}
 use mathlib.Core.Bool.{Bool, true, false}
 use mathlib.Core.List.{List}

@@ -20,7 +20,7 @@ fn refused(number: u32) -> Page
     }
 }
 
-// What both calls do: check the index, read the question, find each step's list or that its name has none, and write a page; `whole` says
+// What both calls for rows do: check the index, read the question, find each step's list or that its name has none, and write a page; `whole` says
 // whether a row has the positions of all steps or that of the returned step alone.
 pub fn respond(index: &[u8], text: &[u8], place: u32, out: &mut [u32], whole: bool) -> Page
     ensures { λ r. ⌜ Responds whole (now (index .entry)) (now (text .entry)) place (now (out .entry)) (now (out .exit)) r ⌝ }

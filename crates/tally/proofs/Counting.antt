@@ -1,20 +1,20 @@
 -- What one call more makes of the figures, by what becomes of it.
 use Prim.Native.Nat.{ℕ, _+_, _*_, _-_, _≤_}
 use native.Mathlib.Omega.{arith}
-use mathlib.Core.Path.{_≡_, refl, sym, ap, _∙_}
+use mathlib.Core.Path.{_≡_, ap, _∙_}
 use mathlib.Core.List.{List}
 use lib.ListN.{length}
 use Rattle.meaning.specs.declared.Figures.{Figures}
 use Rattle.meaning.specs.Limits.{mostLabels}
 use Rattle.meaning.specs.Bytes.{at}
-use Rattle.meaning.specs.Waits.{Ending, board, cancel, Traffic, trafficOf, Ends, Figured}
-use Rattle.meaning.specs.Fit.{Sound}
+use Rattle.meaning.specs.Waits.{Ending, board, cancel, ofEnding, Traffic, trafficOf, Ends, Figured}
+use Rattle.meaning.specs.Fit.{Sound, oneEnded}
 use Rattle.meaning.proofs.Laws.Sum.{number-within}
-use Rattle.meaning.proofs.Laws.Waits.{figured-ended, figured-open}
+use Rattle.meaning.proofs.Laws.Waits.{figures-≡, figured-ended, figured-open}
 use Rattle.tally.specs.declared.Outcome.{Outcome}
 use Rattle.tally.specs.declared.Outcome.the-variants.{Boarded, Cancelled, Open}
 use Rattle.tally.specs.Sights.{Becomes}
-use Rattle.tally.specs.Adding.{Small, WaitTimed, Timed, waitedFor, oneBoarded, oneCancelled, oneOpen, added}
+use Rattle.tally.specs.Adding.{Small, WaitTimed, Timed, waitedFor, added}
 
 -- Figures of no more calls than a day can have are small.
 pub figured-small : {w : Traffic} {n : ℕ} {f : Figures} → Figured w n f → n ≤ mostLabels → f .total ≤ n * 4_294_967_295 → Small f
@@ -35,16 +35,13 @@ wait-is times s u d e start until from to = e ∙ (λ k. at times (to k) - at ti
 pub waited-small : {f g : Figures} (d : ℕ) → Small f → g ≡ waitedFor d f → (g .boarded ≤ mostLabels) × (g .cancelled ≤ mostLabels)
 waited-small d small is = (omega (arith, ap (λ (h : Figures). h .boarded) is, small .boarded), omega (arith, ap (λ (h : Figures). h .cancelled) is, small .cancelled))
 
--- What is put together of the parts is what the call adds, by its outcome.
-module _ (time : ℕ → ℕ) (start : ℕ) (f : Figures) (o : Outcome) where
-  pub added-boarded : {u d : ℕ} {g : Figures} → o ≡ Boarded u → d ≡ time u - time start → g ≡ waitedFor d f → oneBoarded g ≡ added time start f o
-  added-boarded e wait is = ap oneBoarded (is ∙ ap (λ (k : ℕ). waitedFor k f) wait) ∙ sym (ap (added time start f) e)
-
-  pub added-cancelled : {u d : ℕ} {g : Figures} → o ≡ Cancelled u → d ≡ time u - time start → g ≡ waitedFor d f → oneCancelled g ≡ added time start f o
-  added-cancelled e wait is = ap oneCancelled (is ∙ ap (λ (k : ℕ). waitedFor k f) wait) ∙ sym (ap (added time start f) e)
-
-  pub added-open : o ≡ Open → oneOpen f ≡ added time start f o
-  added-open e = sym (ap (added time start f) e)
+-- The figures with a wait added, and the call counted by what ended it, are what it adds.
+pub ended-is : (e : Ending) (f : Figures) (d : ℕ) (g h : Figures) → g ≡ waitedFor d f → h .boarded ≡ g .boarded + ofEnding 1 0 e → h .cancelled ≡ g .cancelled + ofEnding 0 1 e
+    → h .refusal ≡ g .refusal → h .calls ≡ g .calls → h .left_open ≡ g .left_open → h .total ≡ g .total → h .longest ≡ g .longest → h .over ≡ g .over → h ≡ oneEnded e d f
+ended-is e f d g h is boarded cancelled refusal calls left total longest over =
+    figures-≡ (refusal ∙ ap (λ (x : Figures). x .refusal) is) (calls ∙ ap (λ (x : Figures). x .calls) is) (boarded ∙ ap (λ (x : Figures). x .boarded + ofEnding 1 0 e) is)
+    (cancelled ∙ ap (λ (x : Figures). x .cancelled + ofEnding 0 1 e) is) (left ∙ ap (λ (x : Figures). x .left_open) is) (total ∙ ap (λ (x : Figures). x .total) is)
+    (longest ∙ ap (λ (x : Figures). x .longest) is) (over ∙ ap (λ (x : Figures). x .over) is)
 
 module _ (calls boards cancels times : List ℕ) (sound : Sound (trafficOf calls boards cancels times) (length times)) (i : ℕ) where
   abbrev w : Traffic
@@ -61,10 +58,6 @@ module _ (calls boards cancels times : List ℕ) (sound : Sound (trafficOf calls
 
   -- The figures of the calls before, with what the call adds, are those with the call.
   pub figured-added : {f : Figures} → Figured w i f → (r : Outcome) → Becomes w i r → (k : ℕ) → k ≡ i + 1 → Figured w k (added (at times) (w .calls .label i .start) f r)
-  figured-added {f} x (Boarded s) (j, h, is) k more =
-      figured-ended w sound x board j (at times s - at times (w .calls .label i .start)) h (ap (λ (n : ℕ). at times n - at times (w .calls .label i .start)) is)
-      k _ refl refl refl (omega arith) refl refl refl refl more
-  figured-added {f} x (Cancelled s) (j, h, is) k more =
-      figured-ended w sound x cancel j (at times s - at times (w .calls .label i .start)) h (ap (λ (n : ℕ). at times n - at times (w .calls .label i .start)) is)
-      k _ refl refl (omega arith) refl refl refl refl refl more
-  figured-added x Open h k more = figured-open w sound x h k _ refl refl refl refl refl refl refl refl more
+  figured-added x (Boarded s) (j, h, is) k more = figured-ended w sound x board j (at times s - at times (w .calls .label i .start)) h (ap (λ (n : ℕ). at times n - at times (w .calls .label i .start)) is) k more
+  figured-added x (Cancelled s) (j, h, is) k more = figured-ended w sound x cancel j (at times s - at times (w .calls .label i .start)) h (ap (λ (n : ℕ). at times n - at times (w .calls .label i .start)) is) k more
+  figured-added x Open h k more = figured-open w sound x h k more

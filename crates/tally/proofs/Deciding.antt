@@ -2,8 +2,6 @@
 use Prim.Native.Nat.{ℕ, _≤_, _<_}
 use native.Mathlib.Omega.{arith}
 use mathlib.Core.Path.{_≡_, sym, _∙_}
-use Rattle.meaning.specs.declared.Label.{Label}
-use Rattle.meaning.specs.Labels.{Inside}
 use Rattle.meaning.specs.Waits.{Ending, board, cancel, Traffic, Within, Ends}
 use Rattle.meaning.specs.Fit.{Sound}
 use Rattle.tally.specs.declared.Outcome.{Outcome}

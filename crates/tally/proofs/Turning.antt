@@ -7,10 +7,10 @@ use lib.ListN.{length}
 use Rattle.meaning.specs.declared.Figures.{Figures}
 use Rattle.meaning.specs.declared.Label.{Label}
 use Rattle.meaning.specs.Bytes.{at}
-use Rattle.meaning.specs.Waits.{Tagged, Ending, board, cancel, Traffic, inBody, trafficOf, Figured, noFigures}
+use Rattle.meaning.specs.Waits.{Tagged, Ending, Traffic, inBody, trafficOf, Figured, noFigures}
 use Rattle.meaning.specs.Fit.{Sound}
 use Rattle.meaning.proofs.Laws.Waits.{figured-none}
-use Rattle.label.specs.Started.{Ascends, Between, Started}
+use Rattle.label.specs.Started.{Between, Started}
 use Rattle.tally.specs.declared.Outcome.{Outcome}
 use Rattle.tally.specs.declared.Sight.{Sight}
 use Rattle.tally.specs.Sights.{Whole, FirstStart, Sees, Decided, Becomes}

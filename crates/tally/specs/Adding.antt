@@ -5,6 +5,8 @@ use lib.ListN.{length}
 use Rattle.meaning.specs.declared.Figures.{Figures}
 use Rattle.meaning.specs.Limits.{mostLabels}
 use Rattle.meaning.specs.Bytes.{at}
+use Rattle.meaning.specs.Waits.{board, cancel}
+use Rattle.meaning.specs.Fit.{oneEnded, oneOpen}
 use Rattle.tally.specs.declared.Outcome.{Outcome}
 use Rattle.tally.specs.declared.Outcome.the-variants.{Boarded, Cancelled, Open}
 
@@ -34,21 +36,8 @@ abbrev pub waitedFor : ℕ → Figures → Figures
 waitedFor d f =
     record { refusal = f .refusal; calls = f .calls + 1; boarded = f .boarded; cancelled = f .cancelled; left_open = f .left_open; total = f .total + d; longest = max (f .longest) d; over = f .over + 1 }
 
--- The figures with one boarded, one cancelled and one open call more.
-abbrev pub oneBoarded : Figures → Figures
-oneBoarded f =
-    record { refusal = f .refusal; calls = f .calls; boarded = f .boarded + 1; cancelled = f .cancelled; left_open = f .left_open; total = f .total; longest = f .longest; over = f .over }
-
-abbrev pub oneCancelled : Figures → Figures
-oneCancelled f =
-    record { refusal = f .refusal; calls = f .calls; boarded = f .boarded; cancelled = f .cancelled + 1; left_open = f .left_open; total = f .total; longest = f .longest; over = f .over }
-
-abbrev pub oneOpen : Figures → Figures
-oneOpen f =
-    record { refusal = f .refusal; calls = f .calls + 1; boarded = f .boarded; cancelled = f .cancelled; left_open = f .left_open + 1; total = f .total; longest = f .longest; over = f .over }
-
 -- The figures with one call more that starts at a number, by its outcome.
 abbrev pub added : (ℕ → ℕ) → ℕ → Figures → Outcome → Figures
-added time start f (Boarded until) = oneBoarded (waitedFor (time until - time start) f)
-added time start f (Cancelled until) = oneCancelled (waitedFor (time until - time start) f)
+added time start f (Boarded until) = oneEnded board (time until - time start) f
+added time start f (Cancelled until) = oneEnded cancel (time until - time start) f
 added time start f Open = oneOpen f

@@ -5,7 +5,7 @@ use mathlib.Core.List.{List}
 use lib.ListN.{length}
 use Rattle.meaning.specs.declared.Label.{Label}
 use Rattle.meaning.specs.Labels.{Inside}
-use Rattle.meaning.specs.Waits.{Tagged, Ending, board, cancel, Traffic, inBody, Ends, Open}
+use Rattle.meaning.specs.Waits.{Tagged, board, cancel, Traffic, inBody, Ends, Open}
 use Rattle.label.specs.Started.{Started}
 use Rattle.tally.specs.declared.Sight.{Sight}
 use Rattle.tally.specs.declared.Outcome.{Outcome}

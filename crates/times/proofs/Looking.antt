@@ -8,7 +8,6 @@ use mathlib.Core.List.{List}
 use lib.ListN.{length}
 use Rattle.meaning.specs.declared.Body.{Body}
 use Rattle.meaning.specs.Bytes.{at}
-use Rattle.meaning.specs.Labels.{labelOf}
 use Rattle.meaning.specs.Day.{tags, rowList}
 use Rattle.meaning.specs.Waits.{NoEntry, TimesDescend}
 use Rattle.meaning.specs.Refusals.{Lawful}

@@ -6,7 +6,7 @@ use mathlib.Core.List.{List}
 use lib.ListN.{length}
 use Rattle.meaning.specs.declared.Figures.{Figures}
 use Rattle.meaning.specs.Day.{bodyOf}
-use Rattle.meaning.specs.Waits.{callName, boardName, cancelName, trafficOf, traffic, Figured, noFigures}
+use Rattle.meaning.specs.Waits.{callName, boardName, cancelName, trafficOf, Figured, noFigures}
 use Rattle.meaning.specs.Refusals.{Clear, Lawful, Verdict, clear, given, checkTable, timesTable, waitsTable}
 use Rattle.meaning.specs.Promises.{Checked, Tabled, untold, told}
 use Rattle.meaning.specs.Fit.{Sound}

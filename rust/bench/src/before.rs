@@ -28,7 +28,7 @@ impl Before {
     /// The library that the environment names, or nothing if it names none.
     pub fn named() -> Result<Option<Before>, Failure> {
         match std::env::var(NAMED_BY) {
-            Ok(name) if !name.is_empty() => Before::load(&name).map(Some).ok_or(format!("{name} has not the calls of this library.")),
+            Ok(name) if !name.is_empty() => Before::load(&name).map(Some).ok_or(format!("{name} does not have the calls of this library.")),
             _ => Ok(None),
         }
     }

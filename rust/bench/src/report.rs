@@ -5,7 +5,7 @@ use crate::table;
 use crate::timing::Times;
 use std::time::Duration;
 
-/// What was measured, and the times of the check and of both calls.
+/// What was measured, and the times of the check and of both calls for rows.
 pub struct Row {
     pub called: String,
     pub check: Times,

@@ -1,14 +1,14 @@
 //! Lists of times, in order or with something wrong in them.
 
-use days::Seeded;
+use days::{rising, Seeded};
 
 /// So many times in order: all the same, in small steps of which many are 0, in large ones, or in a few leaps. 0 and 4,294,967,295 are often
 /// among them.
 pub fn random_times(random: &mut Seeded, count: usize) -> Vec<u32> {
     let mut times = match random.below(5) {
         0 => vec![any_time(random); count],
-        1 => in_steps(random, count, 3),
-        2 => in_steps(random, count, u32::MAX as usize / (count + 1)),
+        1 => rising(random, count, 3),
+        2 => rising(random, count, u32::MAX as usize / (count + 1)),
         _ => in_leaps(random, count),
     };
     if let (Some(first), true) = (times.first_mut(), random.chance(1, 8)) {
@@ -23,16 +23,6 @@ pub fn random_times(random: &mut Seeded, count: usize) -> Vec<u32> {
 fn any_time(random: &mut Seeded) -> u32 {
     let any = random.number() as u32;
     *random.pick(&[0, 0, 1, 1_000, u32::MAX - 1, u32::MAX, any, any])
-}
-
-/// Each at most so much later than the one before, and often not at all.
-fn in_steps(random: &mut Seeded, count: usize, most: usize) -> Vec<u32> {
-    let mut now = 0;
-    let mut next = |_| {
-        now += if random.chance(1, 4) { 0 } else { random.below(most + 1) as u32 };
-        now
-    };
-    (0..count).map(&mut next).collect()
 }
 
 /// The least time, then the same or one half way, then the greatest, each over a stretch of numbers, so that a wait is as long as can be.

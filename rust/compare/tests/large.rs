@@ -202,7 +202,7 @@ fn pages_put_together_are_all_records() {
     }
 }
 
-/// Both refuse the index with the number in all three calls, and leave the buffers as they were.
+/// Both refuse the index with the number in the check and in both calls for rows, and leave the buffers as they were.
 fn refused(index: &[u8], number: u32) {
     assert_eq!(number_of(roadthrum::check(index)), number);
     assert_eq!(twin::check(index), number);

@@ -9,7 +9,6 @@ use compare::{
     KINDS_OF_TABLES, PROVED, TWIN, WRAPPED,
 };
 use days::Day;
-use evaluator::Waits;
 use waits_by_hand::{any_times, broken_indexes, cases, Tag};
 
 /// Whoever gives a waiting table, but for the evaluator.
@@ -22,15 +21,10 @@ fn index(tags: &[Tag]) -> Vec<u8> {
     Day { lists: lists.collect() }.to_bytes()
 }
 
-fn figures(waits: Waits) -> [u64; 8] {
-    let Waits { refusal, calls, boarded, cancelled, open, total, longest, over } = waits;
-    [u64::from(refusal), calls, boarded, cancelled, open, total, longest, over]
-}
-
 /// All of them and the evaluator give these figures.
 fn all_give(what: &str, index: &[u8], times: &[u32], told: [u64; 8]) {
     for (name, waits) in JUDGED.into_iter().chain([("the evaluator", evaluator::waits as Waiting)]) {
-        assert_eq!(figures(waits(index, times)), told, "{what}: {name}");
+        assert_eq!(waits(index, times).numbers(), told, "{what}: {name}");
     }
 }
 

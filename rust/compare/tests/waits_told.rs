@@ -4,9 +4,9 @@
 mod waiting_ways;
 
 use compare::{compare_waits, waiting_case, PROVED};
-use days::Label;
+use days::{is_inside, Label};
 use evaluator::Waits;
-use waiting_ways::{between, descends, earlier, first, first_of, is_inside, lacks, Became, Lists, Way, RIGHT};
+use waiting_ways::{between, descends, earlier, first, first_of, lacks, Became, Lists, Way, RIGHT};
 
 /// What the comparison says of the first case in which the waiting table is found to be wrong.
 fn first_difference(waits: impl Fn(&[u8], &[u32]) -> Waits) -> Option<String> {

@@ -5,6 +5,11 @@ use std::collections::BTreeMap;
 /// A record's start and end.
 pub type Label = (u32, u32);
 
+/// Whether a label lies inside another.
+pub fn is_inside(label: Label, outer: Label) -> bool {
+    outer.0 < label.0 && label.1 < outer.1
+}
+
 /// The records of a day: for each tag its labels. Nothing here forbids a day that is not lawful.
 #[derive(Clone, Debug, Default, PartialEq, Eq)]
 pub struct Day {

@@ -17,9 +17,9 @@ mod times;
 
 pub use apart::apart_day;
 pub use halves::halves_day;
-pub use index::{Day, Label};
+pub use index::{is_inside, Day, Label};
 pub use lift::lift_day;
 pub use nested::nested_day;
 pub use seeded::Seeded;
 pub use small::{small_day, small_times};
-pub use times::rising_times;
+pub use times::{rising, rising_times};

@@ -18,6 +18,14 @@ pub struct Waits {
     pub over: u64,
 }
 
+impl Waits {
+    /// The eight numbers in the order in which the library gives them.
+    pub fn numbers(self) -> [u64; 8] {
+        let Waits { refusal, calls, boarded, cancelled, open, total, longest, over } = self;
+        [u64::from(refusal), calls, boarded, cancelled, open, total, longest, over]
+    }
+}
+
 /// What the record that starts first inside a call makes of it.
 #[derive(Clone, Copy, Debug, PartialEq, Eq)]
 pub enum Made {
@@ -62,7 +70,7 @@ fn first_inside(call: Label, boards: &[Label], cancels: &[Label]) -> Option<(Mad
     boards.chain(cancels).filter(|(_, label)| label.inside(call)).min_by_key(|(_, label)| label.start)
 }
 
-/// Each figure by itself.
+/// Each figure by itself, but for what the mean is over, which is boarded plus cancelled.
 fn figures(calls: &[Call], times: &[u32]) -> Waits {
     let made = |what: Option<Made>| calls.iter().filter(|call| call.first.map(|(made, _)| made) == what).count() as u64;
     let (boarded, cancelled, open) = (made(Some(Made::Boarded)), made(Some(Made::Cancelled)), made(None));

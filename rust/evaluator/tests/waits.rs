@@ -4,19 +4,13 @@ mod days;
 mod waits_by_hand;
 
 use days::{day, small_day};
-use evaluator::{calls, waits, Label, Made, Waits};
+use evaluator::{calls, waits, Label, Made};
 use waits_by_hand::{any_times, broken_indexes, cases};
-
-/// The figures in the order in which the cases by hand have them.
-fn figures(waits: Waits) -> [u64; 8] {
-    let Waits { refusal, calls, boarded, cancelled, open, total, longest, over } = waits;
-    [u64::from(refusal), calls, boarded, cancelled, open, total, longest, over]
-}
 
 #[test]
 fn cases_by_hand() {
     for case in cases() {
-        assert_eq!(figures(waits(&day(&case.day), &case.times)), case.told, "{}", case.what);
+        assert_eq!(waits(&day(&case.day), &case.times).numbers(), case.told, "{}", case.what);
     }
 }
 
@@ -24,7 +18,7 @@ fn cases_by_hand() {
 fn broken_indexes_come_first() {
     for (index, refusal) in broken_indexes() {
         for times in any_times() {
-            assert_eq!(figures(waits(index, times)), [refusal, 0, 0, 0, 0, 0, 0, 0], "{index:?} with {times:?}");
+            assert_eq!(waits(index, times).numbers(), [refusal, 0, 0, 0, 0, 0, 0, 0], "{index:?} with {times:?}");
         }
     }
 }

@@ -1,6 +1,6 @@
 //! The waiting table of the small day, once with the fault of the old tool and once as it is. `make demo` ends with this.
 
-use days::{small_day, small_times, Day, Label};
+use days::{is_inside, small_day, small_times, Day, Label};
 use roadthrum::{waits, Refusal, Waits};
 
 fn main() -> Result<(), Refusal> {
@@ -25,10 +25,6 @@ fn print_day(day: &Day, times: &[u32]) {
         let record = format!("{:indent$}{tag} {}:{}", "", label.0, label.1, indent = 2 * around);
         println!("    {record:<18}{:<15}{}", clock(times[label.0 as usize]), clock(times[label.1 as usize]));
     }
-}
-
-fn is_inside(label: Label, outer: Label) -> bool {
-    outer.0 < label.0 && label.1 < outer.1
 }
 
 /// A time of day from milliseconds since midnight.

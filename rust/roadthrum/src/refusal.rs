@@ -1,4 +1,4 @@
-//! Why a call gives nothing else.
+//! Why a call refuses.
 
 use std::fmt;
 

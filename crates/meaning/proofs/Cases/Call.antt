@@ -37,14 +37,14 @@ pub data Why : Type 0 where
   large : Path → Why
 
 -- A call: a question that is accepted, with its outcome for whatever buffer is lent; the answer call or the evidence call with the buffer
--- before and after; or an index and a text with the number that both calls refuse them with.
+-- before and after; or an index and a text with the number that both calls for rows refuse them with.
 pub data Call : Type 0 where
   accepts : Asking → Call
   answers : Asking → List ℕ → List ℕ → Call
   shows : Asking → List ℕ → List ℕ → Call
   refuses : List ℕ → List ℕ → Why → ℕ → Call
 
--- Both calls refuse with the number, whatever the place, and leave whatever buffer is lent.
+-- Both calls for rows refuse with the number, whatever the place, and leave whatever buffer is lent.
 pub record RefuseRight (b text : List ℕ) (n : ℕ) : Type 0 where
   pub answered : (place : ℕ) (entry : List ℕ) → Answered b text place entry entry (refusalOf n)
   pub shown : (place : ℕ) (entry : List ℕ) → Shown b text place entry entry (refusalOf n)

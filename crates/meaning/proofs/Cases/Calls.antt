@@ -1,4 +1,4 @@
--- Refusals by both calls, questions on both sides of each limit, and pages in buffers that no number of rows fills. Document 01 has the
+-- Refusals by both calls for rows, questions on both sides of each limit, and pages in buffers that no number of rows fills. Document 01 has the
 -- numbers; the texts are written out here, and not by what writes a tree.
 use Prim.Native.Nat.{ℕ, zero, suc}
 use mathlib.Core.Bool.{Bool, true, false}

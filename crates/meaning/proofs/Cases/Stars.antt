@@ -61,7 +61,7 @@ stars =
     ∷
     []
 
--- Every marked case is right: the outcomes that the table says satisfy the promises of the three calls.
+-- Every marked case is right: the outcomes that the table says satisfy the promises of the check, the answer and the evidence call.
 pub stars-right : All stars
 unfolding stars rightB
 stars-right = all-right stars (tt, (tt, (tt, (tt, (tt, (tt, (tt, (tt, (tt, (tt, (tt, (tt, (tt, (tt, tt))))))))))))))

@@ -1,20 +1,19 @@
 -- Waiting tables worked out by hand, each call with the record that ends its wait and with the wait itself, and lists of times that are refused.
-use Prim.Native.Nat.{ℕ, suc, _+_, max}
+use Prim.Native.Nat.{ℕ, suc}
 use native.Mathlib.Omega.{arith}
 use mathlib.Core.Path.{_≡_, refl, sym, subst, _∙_}
-use mathlib.Core.Bool.{Bool, true, false, _&&_}
+use mathlib.Core.Bool.{Bool, _&&_}
 use mathlib.Core.List.{List, [], _∷_, _++_}
 use lib.Dec.{T, eqb, ltb}
-use lib.ListN.{length}
 use Rattle.meaning.specs.declared.Figures.{Figures}
 use Rattle.meaning.specs.Answers.{Decides}
 use Rattle.meaning.specs.Bytes.{u32At}
 use Rattle.meaning.specs.Names.{same}
 use Rattle.meaning.specs.Day.{listAmong}
-use Rattle.meaning.specs.Waits.{Ending, board, cancel, Traffic, ofEnding, traffic, Ends, Open, waitUntil, Figured, noFigures}
+use Rattle.meaning.specs.Waits.{Ending, board, cancel, Traffic, traffic, Ends, Open, waitUntil, Figured, noFigures}
 use Rattle.meaning.specs.Refusals.{Clear, Verdict, waitsTable}
 use Rattle.meaning.specs.Promises.{Tabled, untold, told}
-use Rattle.meaning.specs.Fit.{Sound}
+use Rattle.meaning.specs.Fit.{Sound, oneEnded, oneOpen}
 use Rattle.meaning.proofs.Decide.{passed, lt-decides, eq-decides, and-decides, each, some}
 use Rattle.meaning.proofs.Decide.Day.{checkOf}
 use Rattle.meaning.proofs.Decide.Waits.{insideEach, insideAll, endsB, ends-decides, openB, open-decides, noEntryB, descendB, waitsOf, waits-agrees}
@@ -33,18 +32,20 @@ pub data Case : Type 0 where
   refuses : List ℕ → List ℕ → ℕ → Case
   tables : List ℕ → List ℕ → List Became → Figures → Case
 
+-- The figures of a refusal, written out.
+abbrev pub refusal : ℕ → Figures
+refusal n = record { refusal = n; calls = 0; boarded = 0; cancelled = 0; left_open = 0; total = 0; longest = 0; over = 0 }
+
 -- What is said of a case.
 abbrev pub Right : Case → Type 0
-Right (refuses b times n) = Tabled b times (noFigures n)
+Right (refuses b times n) = Tabled b times (refusal n)
 Right (tables b times calls f) = Tabled b times f
 
 -- The figures with these calls after the first ones, of which f are the figures.
 abbrev after : Figures → List Became → Figures
 after f [] = f
-after f (by e j d ∷ calls) =
-    after (record { refusal = f .refusal; calls = f .calls + 1; boarded = f .boarded + ofEnding 1 0 e; cancelled = f .cancelled + ofEnding 0 1 e; left_open = f .left_open; total = f .total + d; longest = max (f .longest) d; over = f .over + 1 }) calls
-after f (neither ∷ calls) =
-    after (record { refusal = f .refusal; calls = f .calls + 1; boarded = f .boarded; cancelled = f .cancelled; left_open = f .left_open + 1; total = f .total; longest = f .longest; over = f .over }) calls
+after f (by e j d ∷ calls) = after (oneEnded e d f) calls
+after f (neither ∷ calls) = after (oneOpen f) calls
 
 -- The calls from the nth on have these outcomes, and there are no others.
 abbrev Follow : Traffic → ℕ → List Became → Type 0
@@ -66,11 +67,8 @@ follow-decides w n (neither ∷ calls) = and-decides (open-decides w n) (follow-
 -- So the figures with them are those of all calls.
 figured-after : (w : Traffic) {entries : ℕ} → Sound w entries → (n : ℕ) (f : Figures) (calls : List Became) → Figured w n f → Follow w n calls → Figured w (w .calls .count) (after f calls)
 figured-after w sound n f [] x e = subst (λ (k : ℕ). Figured w k f) e x
-figured-after w sound n f (by e j d ∷ calls) x ((h, wait), rest) =
-    figured-after w sound (suc n) _ calls
-    (figured-ended w sound x e j d h wait (suc n) _ refl refl refl refl refl refl refl refl (omega arith)) rest
-figured-after w sound n f (neither ∷ calls) x (h, rest) =
-    figured-after w sound (suc n) _ calls (figured-open w sound x h (suc n) _ refl refl refl refl refl refl refl refl (omega arith)) rest
+figured-after w sound n f (by e j d ∷ calls) x ((h, wait), rest) = figured-after w sound (suc n) _ calls (figured-ended w sound x e j d h wait (suc n) (omega arith)) rest
+figured-after w sound n f (neither ∷ calls) x (h, rest) = figured-after w sound (suc n) _ calls (figured-open w sound x h (suc n) (omega arith)) rest
 
 -- Two figures are the same.
 abbrev Same : Figures → Figures → Type 0
@@ -163,7 +161,7 @@ waiting =
     ∷
     refuses [] (1 ∷ 0 ∷ []) 1
     ∷
-    tables (head 0) [] [] (noFigures 0)
+    tables (head 0) [] [] (refusal 0)
     ∷
     refuses (head 0) (1 ∷ 0 ∷ []) 21
     ∷

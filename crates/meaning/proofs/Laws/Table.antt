@@ -57,7 +57,7 @@ given-least (row j reason rest) k r n m (inl g) (inr a) = omega (arith, g .1, ab
 given-least (row j reason rest) k r n m (inr g) (inl a) = absurd (g .0 (a .0))
 given-least (row j reason rest) k r n m (inr g) (inr a) = given-least rest j (r .1) n m (g .1) a
 
--- The numbers of the table ascend from 1 to 9, in the order in which the checks run.
+-- The numbers of each table ascend, in the order in which the checks run.
 pub call-rising : (b text : List ℕ) → Rising 0 (callTable b text)
 call-rising b text = (omega arith, (omega arith, (omega arith, (omega arith, (omega arith, (omega arith, (omega arith, (omega arith, (omega arith, tt)))))))))
 
@@ -73,7 +73,7 @@ times-rising b times = (omega arith, (omega arith, tt))
 pub waits-rising : (b times : List ℕ) → Rising 0 (waitsTable b times)
 waits-rising b times = (omega arith, (omega arith, (omega arith, (omega arith, (omega arith, (omega arith, (omega arith, (omega arith, tt))))))))
 
--- What a table gives, it gives also where another follows: a broken index gives its own number, whatever the question.
+-- What a table gives, it gives also where another follows: a broken index gives its own number, whatever the question or the times.
 pub given-first : (t u : Table) (n : ℕ) → Given t n → Given (followed t u) n
 given-first end u n g = absurd g
 given-first (row m reason rest) u n (inl g) = inl g

@@ -4,9 +4,8 @@ use native.Mathlib.Omega.{arith}
 use mathlib.Core.Path.{_≡_, sym, ap, _∙_}
 use mathlib.Core.List.{List}
 use Rattle.meaning.specs.declared.Figures.{Figures}
-use Rattle.meaning.specs.Limits.{mostLabels}
 use Rattle.meaning.specs.Bytes.{at}
-use Rattle.meaning.specs.Waits.{Ending, traffic, Ends, waitUntil, Waited, Figured, noFigures}
+use Rattle.meaning.specs.Waits.{Ending, traffic, Ends, waitUntil, Waited, noFigures}
 use Rattle.meaning.specs.Refusals.{Clear, waitsTable}
 use Rattle.meaning.specs.Promises.{Tabled, untold, told}
 use Rattle.meaning.proofs.Laws.Table.{given-one, clear-not-given}

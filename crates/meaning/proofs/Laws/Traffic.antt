@@ -1,11 +1,11 @@
--- From a lawful index with its times to what the waiting table rests on (`specs/Fit.Sound`), and what follows for the promise of the waits call.
-use Prim.Native.Nat.{ℕ, zero, suc, _+_, _*_, _-_, _/_, _≤_, _<_, min}
+-- From a lawful index with its times to what the waiting table rests on (`specs/Fit.Sound`).
+use Prim.Native.Nat.{ℕ, zero, suc, _*_, _≤_, _<_}
 use native.Mathlib.Nat.{eq-or-lt-of-le, le-of-suc-le-suc}
 use native.Mathlib.Omega.{arith}
 use mathlib.Core.Path.{_≡_, sym, ap, subst, subst₂, _∙_}
 use mathlib.Core.Logic.{_⊎_, inl, inr, _≢_, ⊎-elim}
 use mathlib.Core.List.{List}
-use lib.ListN.{length, take, drop, length-take}
+use lib.ListN.{length, drop, length-take}
 use Rattle.meaning.specs.declared.Label.{Label}
 use Rattle.meaning.specs.declared.Body.{Body}
 use Rattle.meaning.specs.declared.Found.{Found}
@@ -13,9 +13,9 @@ use Rattle.meaning.specs.declared.Found.the-variants.{Known, Unknown}
 use Rattle.meaning.specs.Limits.{mostLabels}
 use Rattle.meaning.specs.Bytes.{at}
 use Rattle.meaning.specs.Names.{filled}
-use Rattle.meaning.specs.Labels.{Inside, Apart, Place, labelOf, Holds}
-use Rattle.meaning.specs.Day.{tags, nameField, labelAt, listsOf, rowList, Has, Finds, listOf, bodyOf}
-use Rattle.meaning.specs.Waits.{Ending, board, cancel, inBody, ofEnding, callName, boardName, cancelName, traffic, NoEntry, TimesDescend}
+use Rattle.meaning.specs.Labels.{Inside, Apart, Place}
+use Rattle.meaning.specs.Day.{nameField, Finds, listOf, bodyOf}
+use Rattle.meaning.specs.Waits.{Ending, board, cancel, inBody, callName, boardName, cancelName, traffic, NoEntry, TimesDescend}
 use Rattle.meaning.specs.Refusals.{Lawful, Clear, checkTable, timesTable, waitsTable}
 use Rattle.meaning.specs.Fit.{Sound}
 use Rattle.meaning.proofs.Decide.{or-not, le-decides, lt-decides}

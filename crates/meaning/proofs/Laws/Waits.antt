@@ -4,8 +4,8 @@ use native.Mathlib.Omega.{arith}
 use mathlib.Core.Path.{_≡_, refl, sym, _∙_}
 use mathlib.Core.Logic.{_⊎_, inl, inr, ⊎-elim}
 use Rattle.meaning.specs.declared.Figures.{Figures}
-use Rattle.meaning.specs.Waits.{Ending, board, cancel, Traffic, ofEnding, Ends, Ended, Closed, Open, waitUntil, Waited, none, Sum, Number, Longest, nobody, Figured, noFigures}
-use Rattle.meaning.specs.Fit.{Sound}
+use Rattle.meaning.specs.Waits.{Ending, board, cancel, Traffic, ofEnding, Ends, Ended, Closed, Open, waitUntil, Waited, none, Number, nobody, Figured, noFigures}
+use Rattle.meaning.specs.Fit.{Sound, oneEnded, oneOpen}
 use Rattle.meaning.proofs.Laws.Sum.{OneEach, ones, sum-one, sum-kept, sum-more, longest-one, longest-kept, longest-more}
 
 -- Figures that are equal field by field are equal.
@@ -45,19 +45,16 @@ module _ (w : Traffic) where
 
     module _ {n : ℕ} {f : Figures} (x : Figured w n f) where
       -- One call more, which record j of an ending ends after a wait of d.
-      pub figured-ended : (e : Ending) (j d : ℕ) → Ends w n e j → d ≡ waitUntil w n e j
-          → (k : ℕ) (g : Figures) → g .total ≡ f .total + d → g .longest ≡ max (f .longest) d
-          → g .boarded ≡ f .boarded + ofEnding 1 0 e → g .cancelled ≡ f .cancelled + ofEnding 0 1 e → g .left_open ≡ f .left_open → g .over ≡ f .over + 1
-          → g .refusal ≡ f .refusal → g .calls ≡ f .calls + 1 → k ≡ n + 1 → Figured w k g
-      figured-ended e j d h wait k g total longer boarded cancelled left over refusal calls more = record {
-        refusal = refusal ∙ x .refusal;
+      pub figured-ended : (e : Ending) (j d : ℕ) → Ends w n e j → d ≡ waitUntil w n e j → (k : ℕ) → k ≡ n + 1 → Figured w k (oneEnded e d f)
+      figured-ended e j d h wait k more = record {
+        refusal = x .refusal;
         calls = omega (arith, x .calls);
-        boarded = counted board e boarded (x .boarded) h;
-        cancelled = counted cancel e cancelled (x .cancelled) h;
-        left-open = sum-kept k more left (λ c o. o .0 e j (h .within)) (x .left-open);
-        total = sum-more k more d total (e, j, h, wait) (x .total);
-        longest = longest-more k more d longer waited-one (e, j, h, wait) (x .longest);
-        over = sum-more k more 1 over (either e h, refl) (x .over);
+        boarded = counted board e refl (x .boarded) h;
+        cancelled = counted cancel e refl (x .cancelled) h;
+        left-open = sum-kept k more refl (λ c o. o .0 e j (h .within)) (x .left-open);
+        total = sum-more k more d refl (e, j, h, wait) (x .total);
+        longest = longest-more k more d refl waited-one (e, j, h, wait) (x .longest);
+        over = sum-more k more 1 refl (either e h, refl) (x .over);
       }
         where
           either : (e : Ending) → Ends w n e j → Closed w n
@@ -76,17 +73,16 @@ module _ (w : Traffic) where
           counted cancel cancel q y h = sum-more k more 1 q ((j, h), refl) y
 
       -- One call more, which is open.
-      pub figured-open : Open w n → (k : ℕ) (g : Figures) → g .total ≡ f .total → g .longest ≡ f .longest → g .boarded ≡ f .boarded → g .cancelled ≡ f .cancelled
-          → g .left_open ≡ f .left_open + 1 → g .over ≡ f .over → g .refusal ≡ f .refusal → g .calls ≡ f .calls + 1 → k ≡ n + 1 → Figured w k g
-      figured-open o k g total longest boarded cancelled left over refusal calls more = record {
-        refusal = refusal ∙ x .refusal;
+      pub figured-open : Open w n → (k : ℕ) → k ≡ n + 1 → Figured w k (oneOpen f)
+      figured-open o k more = record {
+        refusal = x .refusal;
         calls = omega (arith, x .calls);
-        boarded = sum-kept k more boarded (λ d z. open-unended o board (z .0)) (x .boarded);
-        cancelled = sum-kept k more cancelled (λ d z. open-unended o cancel (z .0)) (x .cancelled);
-        left-open = sum-more k more 1 left (o, refl) (x .left-open);
-        total = sum-kept k more total unwaited (x .total);
-        longest = longest-kept k more longest unwaited (x .longest);
-        over = sum-kept k more over (λ d z. ⊎-elim (open-unended o board) (open-unended o cancel) (z .0)) (x .over);
+        boarded = sum-kept k more refl (λ d z. open-unended o board (z .0)) (x .boarded);
+        cancelled = sum-kept k more refl (λ d z. open-unended o cancel (z .0)) (x .cancelled);
+        left-open = sum-more k more 1 refl (o, refl) (x .left-open);
+        total = sum-kept k more refl unwaited (x .total);
+        longest = longest-kept k more refl unwaited (x .longest);
+        over = sum-kept k more refl (λ d z. ⊎-elim (open-unended o board) (open-unended o cancel) (z .0)) (x .over);
       }
         where
           unwaited : (d : ℕ) → Waited w n d → ⊥

@@ -1,10 +1,14 @@
 -- `tally::add` meets its contract, case by case of the outcome.
+use Prim.Native.Nat.{ℕ}
 use native.Mathlib.Omega.{arith}
-use mathlib.Core.Path.{ap, subst, _∙_}
+use mathlib.Core.Path.{refl, sym, ap, subst, _∙_}
 use borrow.Author.Needs.{needs}
 use Rattle.meaning.specs.declared.Figures.{Figures}
-use Rattle.tally.specs.Adding.{Timed}
-use Rattle.tally.proofs.Counting.{wait-is, waited-small, added-boarded, added-cancelled, added-open}
+use Rattle.meaning.specs.Bytes.{at}
+use Rattle.meaning.specs.Waits.{board, cancel}
+use Rattle.meaning.specs.Fit.{oneEnded}
+use Rattle.tally.specs.Adding.{Timed, added}
+use Rattle.tally.proofs.Counting.{wait-is, waited-small, ended-is}
 use Rattle.tally.proofs.add.Statement.{statement}
 use Rattle.tally.proofs.add.Tie as tie
 
@@ -51,16 +55,26 @@ returns : tie.Need-returns
 returns c =
     let s = c .before .before .before .before .before .before .before in
     let o = c .before .before .before .before .outcome .given in
-    (added-boarded _ _ _ _ (o .1) (wait-is (s .args .times .now) _ _ _ (c .before .before .wait .ensures .0) (s .args .start) (o .0 .0) (omega arith) (omega arith)) (c .before .waited .ensures), omega (arith, ap (λ (f : Figures). f .total) (c .before .waited .ensures), c .before .before .wait .ensures .1))
+    let is = c .before .waited .ensures in
+    let long = wait-is (s .args .times .now) _ _ _ (c .before .before .wait .ensures .0) (s .args .start) (o .0 .0) (omega arith) (omega arith) in (
+      ended-is board _ _ _ _ is (omega arith) (omega arith) refl refl refl refl refl refl ∙ ap (λ (d : ℕ). oneEnded board d (s .args .f)) long ∙ sym (ap (added (at (s .args .times .now)) (s .args .start) (s .args .f)) (o .1)),
+      omega (arith, ap (λ (f : Figures). f .total) is, c .before .before .wait .ensures .1),
+    )
 
 returns-2 : tie.Need-returns-2
 returns-2 c =
     let s = c .before .before .before .before .before .before .before in
     let o = c .before .before .before .before .outcome2 .given in
-    (added-cancelled _ _ _ _ (o .1) (wait-is (s .args .times .now) _ _ _ (c .before .before .wait2 .ensures .0) (s .args .start) (o .0 .0) (omega arith) (omega arith)) (c .before .waited2 .ensures), omega (arith, ap (λ (f : Figures). f .total) (c .before .waited2 .ensures), c .before .before .wait2 .ensures .1))
+    let is = c .before .waited2 .ensures in
+    let long = wait-is (s .args .times .now) _ _ _ (c .before .before .wait2 .ensures .0) (s .args .start) (o .0 .0) (omega arith) (omega arith) in (
+      ended-is cancel _ _ _ _ is (omega arith) (omega arith) refl refl refl refl refl refl ∙ ap (λ (d : ℕ). oneEnded cancel d (s .args .f)) long ∙ sym (ap (added (at (s .args .times .now)) (s .args .start) (s .args .f)) (o .1)),
+      omega (arith, ap (λ (f : Figures). f .total) is, c .before .before .wait2 .ensures .1),
+    )
 
 returns-3 : tie.Need-returns-3
-returns-3 c = (added-open _ _ _ _ (c .before .before .enum-told .given .1), omega arith)
+returns-3 c =
+    let s = c .before .before .before .before .before in
+    (sym (ap (added (at (s .args .times .now)) (s .args .start) (s .args .f)) (c .before .before .enum-told .given .1)), omega arith)
 
 pub add-spec : {M : Type 1} → statement M
 add-spec =

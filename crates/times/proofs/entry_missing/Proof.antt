@@ -6,7 +6,7 @@ use lib.ListN.{length}
 use borrow.Author.Count.{below-more}
 use borrow.Author.Needs.{needs}
 use Rattle.meaning.specs.declared.Body.{Body}
-use Rattle.meaning.specs.Answers.{Decides, holds, fails}
+use Rattle.meaning.specs.Answers.{holds, fails}
 use Rattle.meaning.specs.Day.{tags, rowList}
 use Rattle.meaning.proofs.Decide.{if-true, if-false}
 use Rattle.contents.specs.Parts.{Placed, InIndex}

@@ -1,7 +1,7 @@
 //! Ways to make a waiting table from the lists of an index: the right one, in parts that can be made wrong one by one.
 
 use compare::PROVED;
-use days::Label;
+use days::{is_inside, Label};
 use evaluator::Waits;
 use std::collections::BTreeMap;
 
@@ -28,10 +28,6 @@ impl Lists {
         let [calls, boards, cancels] = ["call", "board", "cancel"].map(|name| all.get(name.as_bytes()).cloned().unwrap_or_default());
         Lists { all, calls, boards, cancels }
     }
-}
-
-pub fn is_inside(label: Label, outer: Label) -> bool {
-    outer.0 < label.0 && label.1 < outer.1
 }
 
 /// What becomes of a call, by the record that is taken.

@@ -38,18 +38,20 @@ fn entry_missing(index: &[u8], times: &[u32]) -> bool
     false
 }
 
-// Whether an entry anywhere in the list is smaller than the one before.
+// Whether an entry anywhere in the list is smaller than the one before. The loop has no other way out than its end, so that the compiler may
+// look at many entries at once.
 fn descend(times: &[u32]) -> bool
     ensures { λ d. ⌜ Decides (TimesDescend (now (times .entry))) d ⌝ }
 {
+    let mut smaller = false;
     let mut i = 1;
     while i < times.len() {
         if times[i] < times[i - 1] {
-            return true;
+            smaller = true;
         }
         i += 1;
     }
-    false
+    smaller
 }
 
 // The number of the first reason for which the times of a lawful index are refused, or 0. Both passes are made before either is judged.
@@ -58,11 +60,11 @@ pub fn refusal(index: &[u8], times: &[u32]) -> u32
     ensures { λ r. ⌜ Verdict (timesTable (now (index .entry)) (now (times .entry))) r ⌝ }
 {
     let missing = entry_missing(index, times);
-    let smaller = descend(times);
+    let descent = descend(times);
     if missing {
         return 20;
     }
-    if smaller {
+    if descent {
         return 21;
     }
     0

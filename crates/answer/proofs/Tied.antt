@@ -2,7 +2,7 @@
 -- the whole buffer.
 use Prim.Native.Nat.{ℕ}
 use mathlib.Core.Path.{_≡_}
-use mathlib.Core.List.{List, [], _∷_}
+use mathlib.Core.List.{List}
 use lib.ListN.{length}
 use Rattle.meaning.specs.declared.Page.{Page}
 use Rattle.meaning.specs.Picks.{asked}
@@ -10,7 +10,7 @@ use Rattle.meaning.specs.Pages.{answerRoom, evidenceRoom}
 use Rattle.meaning.specs.Promises.{Checked, Answered, Shown}
 use Rattle.meaning.proofs.Laws.Table.{checked-fixed}
 use Rattle.meaning.proofs.Laws.Promise.{answered-fixed, shown-fixed}
-use Rattle.meaning.proofs.Cases.{Asking, Case, ask, check, empty, IsRoom, joined, resultOf, over, Right, All}
+use Rattle.meaning.proofs.Cases.{Asking, Case, ask, check, empty, IsRoom, joined, resultOf, over, Right, Every, every-as}
 use Rattle.meaning.proofs.Cases.Stars.{stars, stars-right}
 
 -- Whatever buffer of the table's room is lent, the answer call and the evidence call give the table's outcome.
@@ -35,14 +35,6 @@ tied (ask c) right = record {
 tied (check b n) right = λ m x. checked-fixed b m n x right
 tied (empty b) right = λ m x. checked-fixed b m 0 x (right .0)
 
-abbrev pub AllTied : List Case → Type 0
-AllTied [] = Unit
-AllTied (c ∷ cs) = Tied c × AllTied cs
-
-all-tied : (cs : List Case) → All cs → AllTied cs
-all-tied [] h = tt
-all-tied (c ∷ cs) h = (tied c (h .0), all-tied cs (h .1))
-
 -- On every marked case the calls give what the table says.
-pub stars-tied : AllTied stars
-stars-tied = all-tied stars stars-right
+pub stars-tied : Every Tied stars
+stars-tied = every-as tied stars stars-right

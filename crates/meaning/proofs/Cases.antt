@@ -79,7 +79,16 @@ Right (ask c) = AskRight c
 Right (check b n) = Checked b n
 Right (empty b) = Checked b 0 × (total b ≡ 0)
 
+-- Something holds of every case of a table.
+abbrev pub Every : {A : Type 0} → (A → Type 0) → List A → Type 0
+Every P [] = Unit
+Every P (c ∷ cs) = P c × Every P cs
+
+-- What follows from it for a case follows for every case.
+pub every-as : {A : Type 0} {P Q : A → Type 0} → ((c : A) → P c → Q c) → (cs : List A) → Every P cs → Every Q cs
+every-as f [] h = tt
+every-as f (c ∷ cs) h = (f c (h .0), every-as f cs (h .1))
+
 -- Every case of a table is right.
 abbrev pub All : List Case → Type 0
-All [] = Unit
-All (c ∷ cs) = Right c × All cs
+All = Every Right

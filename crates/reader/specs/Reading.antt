@@ -1,18 +1,18 @@
 -- What a reader of one list's body stands before, what it hands out, and what moving on makes of it.
-use Prim.Native.Nat.{ℕ, _+_, _/_, _<_}
+use Prim.Native.Nat.{ℕ, _+_, _<_}
 use mathlib.Core.Bool.{cond}
 use mathlib.Core.List.{List}
 use lib.Dec.{ltb}
-use lib.ListN.{length}
 use denote.Ref.{RefT, now}
 use Rattle.meaning.specs.Day.{labelAt}
+use Rattle.meaning.specs.Waits.{inBody}
 use Rattle.reader.specs.declared.Reader.{Reader}
 use Rattle.reader.specs.declared.Next.{Next}
 use Rattle.reader.specs.declared.Next.the-variants.{Label, End}
 
 -- How many whole labels a body by itself has.
 abbrev pub labels : List ℕ → ℕ
-labels b = length b / 8
+labels b = inBody b .count
 
 -- What comes next at a place of a body by itself: its label there, or the end behind the last whole label.
 abbrev pub nextAt : List ℕ → ℕ → Next

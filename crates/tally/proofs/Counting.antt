@@ -1,7 +1,7 @@
 -- What one call more makes of the figures, by what becomes of it.
 use Prim.Native.Nat.{ℕ, _+_, _*_, _-_, _≤_}
 use native.Mathlib.Omega.{arith}
-use mathlib.Core.Path.{_≡_, ap, _∙_}
+use mathlib.Core.Path.{_≡_, sym, ap, _∙_}
 use mathlib.Core.List.{List}
 use lib.ListN.{length}
 use Rattle.meaning.specs.declared.Figures.{Figures}
@@ -36,12 +36,23 @@ pub waited-small : {f g : Figures} (d : ℕ) → Small f → g ≡ waitedFor d f
 waited-small d small is = (omega (arith, ap (λ (h : Figures). h .boarded) is, small .boarded), omega (arith, ap (λ (h : Figures). h .cancelled) is, small .cancelled))
 
 -- The figures with a wait added, and the call counted by what ended it, are what it adds.
-pub ended-is : (e : Ending) (f : Figures) (d : ℕ) (g h : Figures) → g ≡ waitedFor d f → h .boarded ≡ g .boarded + ofEnding 1 0 e → h .cancelled ≡ g .cancelled + ofEnding 0 1 e
+ended-is : (e : Ending) (f : Figures) (d : ℕ) (g h : Figures) → g ≡ waitedFor d f → h .boarded ≡ g .boarded + ofEnding 1 0 e → h .cancelled ≡ g .cancelled + ofEnding 0 1 e
     → h .refusal ≡ g .refusal → h .calls ≡ g .calls → h .left_open ≡ g .left_open → h .total ≡ g .total → h .longest ≡ g .longest → h .over ≡ g .over → h ≡ oneEnded e d f
 ended-is e f d g h is boarded cancelled refusal calls left total longest over =
     figures-≡ (refusal ∙ ap (λ (x : Figures). x .refusal) is) (calls ∙ ap (λ (x : Figures). x .calls) is) (boarded ∙ ap (λ (x : Figures). x .boarded + ofEnding 1 0 e) is)
     (cancelled ∙ ap (λ (x : Figures). x .cancelled + ofEnding 0 1 e) is) (left ∙ ap (λ (x : Figures). x .left_open) is) (total ∙ ap (λ (x : Figures). x .total) is)
     (longest ∙ ap (λ (x : Figures). x .longest) is) (over ∙ ap (λ (x : Figures). x .over) is)
+
+-- So a call that an ending ends at the number u has added what it should, by its outcome o, and no more than a wait can be.
+pub ended-added : (times : List ℕ) (start : ℕ) (f : Figures) (o : Outcome) (e : Ending) (u : ℕ) → added (at times) start f o ≡ oneEnded e (at times u - at times start) f
+    → (s v d : ℕ) → (d ≡ at times v - at times s) × (d ≤ 4_294_967_295) → s ≡ start → v ≡ u → (g h : Figures) → g ≡ waitedFor d f
+    → h .boarded ≡ g .boarded + ofEnding 1 0 e → h .cancelled ≡ g .cancelled + ofEnding 0 1 e
+    → h .refusal ≡ g .refusal → h .calls ≡ g .calls → h .left_open ≡ g .left_open → h .total ≡ g .total → h .longest ≡ g .longest → h .over ≡ g .over
+    → (h ≡ added (at times) start f o) × (h .total ≤ f .total + 4_294_967_295)
+ended-added times start f o e u case s v d (long, most) from to g h is boarded cancelled refusal calls left total longest over = (
+  ended-is e f d g h is boarded cancelled refusal calls left total longest over ∙ ap (λ (x : ℕ). oneEnded e x f) (wait-is times s v d long start u from to) ∙ sym case,
+  omega (arith, total, ap (λ (x : Figures). x .total) is, most),
+)
 
 module _ (calls boards cancels times : List ℕ) (sound : Sound (trafficOf calls boards cancels times) (length times)) (i : ℕ) where
   abbrev w : Traffic

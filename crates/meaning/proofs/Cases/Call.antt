@@ -25,7 +25,7 @@ use Rattle.meaning.proofs.Laws.Same.{same-decides}
 use Rattle.meaning.proofs.Laws.Notation.{path-no-stop}
 use Rattle.meaning.proofs.Laws.Page.{refusalOf, refusal-is}
 use Rattle.meaning.proofs.Laws.Table.{checked-lawful, verdict-given, given-first, given-after}
-use Rattle.meaning.proofs.Cases.{Room, ample, just, Asking, IsRoom, joined, resultOf, over, AskRight}
+use Rattle.meaning.proofs.Cases.{Room, ample, just, Asking, IsRoom, joined, resultOf, over, AskRight, Every, every-as}
 use Rattle.meaning.proofs.Cases.Test.{askB, ask-sound, rightB}
 
 -- What shows that a call refuses: the check call gives the number; or the index is lawful, and the text is too long, or has no byte, or is
@@ -143,15 +143,8 @@ call-right (refuses b text why n) t =
 
 -- Every call of a table is right.
 abbrev pub CallsRight : List Call → Type 0
-CallsRight [] = Unit
-CallsRight (c ∷ cs) = CallRight c × CallsRight cs
-
--- Every call of a table passes its test.
-abbrev pub CallsPass : List Call → Type 0
-CallsPass [] = Unit
-CallsPass (c ∷ cs) = T (callB c) × CallsPass cs
+CallsRight = Every CallRight
 
 -- A table that passes is right, call by call.
-pub calls-right : (cs : List Call) → CallsPass cs → CallsRight cs
-calls-right [] t = tt
-calls-right (c ∷ cs) t = (call-right c (t .0), calls-right cs (t .1))
+pub calls-right : (cs : List Call) → Every (λ c. T (callB c)) cs → CallsRight cs
+calls-right = every-as call-right

@@ -29,7 +29,7 @@ use Rattle.meaning.proofs.Decide.Day.{checkOf, check-agrees}
 use Rattle.meaning.proofs.Decide.Unknown.{noRowB, firstPassing, unknownOf, unknown-decides}
 use Rattle.meaning.proofs.Decide.Picks.{choose, edgeB, hungB, pickB, somePick, returnedB, undercutB, evidenceB, evidence-decides}
 use Rattle.meaning.proofs.Laws.Record.{filtered, recordsOf, records-of}
-use Rattle.meaning.proofs.Cases.{Room, ample, just, Asking, Case, ask, check, empty, IsRoom, joined, resultOf, over, AskRight, Right, All}
+use Rattle.meaning.proofs.Cases.{Room, ample, just, Asking, Case, ask, check, empty, IsRoom, joined, resultOf, over, AskRight, Right, Every, every-as, All}
 
 -- How many of n records are written.
 abbrev pub writes : Room → ℕ → ℕ
@@ -198,12 +198,6 @@ right (empty b) t =
     let f = passed (and-decides (eq-decides (checkOf b) 0) (eq-decides (total b) 0)) t in
     (subst (Checked b) (f .0) (check-agrees b), f .1)
 
--- Every case of a table passes. Each is a fact of its own, so that one which fails is named.
-abbrev pub Passes : List Case → Type 0
-Passes [] = Unit
-Passes (c ∷ cs) = T (rightB c) × Passes cs
-
--- A table that passes is right, case by case.
-pub all-right : (cs : List Case) → Passes cs → All cs
-all-right [] t = tt
-all-right (c ∷ cs) t = (right c (t .0), all-right cs (t .1))
+-- A table every case of which passes is right. Each is a fact of its own, so that one which fails is named.
+pub all-right : (cs : List Case) → Every (λ c. T (rightB c)) cs → All cs
+all-right = every-as right

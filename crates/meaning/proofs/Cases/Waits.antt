@@ -20,6 +20,7 @@ use Rattle.meaning.proofs.Decide.Waits.{insideEach, insideAll, endsB, e
 use Rattle.meaning.proofs.Laws.Table.{verdict-given, zero-clear, waits-rising}
 use Rattle.meaning.proofs.Laws.Traffic.{clear-sound}
 use Rattle.meaning.proofs.Laws.Waits.{figures-≡, figured-none, figured-ended, figured-open}
+use Rattle.meaning.proofs.Cases.{Every, every-as}
 use Rattle.meaning.proofs.Cases.SmallDay.{bytes, label, row, head, smallDay}
 
 -- What becomes of a call: record j of an ending ends its wait, which is so long; or it is open.
@@ -101,19 +102,9 @@ right (tables b times calls f) t =
     let (a, (q, (r, (o, (s, (l, m)))))) = x .1 .1 .1 in
     told c (subst (Figured (traffic b times) (traffic b times .calls .count)) (figures-≡ (y .refusal ∙ sym (x .1 .1 .0)) a q r o s l m) y)
 
--- Every case of a table passes, each as a fact of its own, so that one which fails is named.
-abbrev Passes : List Case → Type 0
-Passes [] = Unit
-Passes (c ∷ cs) = T (rightB c) × Passes cs
-
--- Every case of a table is right.
-abbrev pub All : List Case → Type 0
-All [] = Unit
-All (c ∷ cs) = Right c × All cs
-
-all-right : (cs : List Case) → Passes cs → All cs
-all-right [] t = tt
-all-right (c ∷ cs) t = (right c (t .0), all-right cs (t .1))
+-- A table every case of which passes is right. Each is a fact of its own, so that one which fails is named.
+all-right : (cs : List Case) → Every (λ c. T (rightB c)) cs → Every Right cs
+all-right = every-as right
 
 -- Times for the numbers 0 to 28 of the small day. Entries repeat, and the last is the greatest that there is.
 abbrev pub start : List ℕ
@@ -177,6 +168,6 @@ waiting =
     []
 
 -- Each of them is right.
-pub waiting-right : All waiting
+pub waiting-right : Every Right waiting
 unfolding waiting rightB
 waiting-right = all-right waiting (tt, (tt, (tt, (tt, (tt, (tt, (tt, (tt, (tt, (tt, (tt, (tt, (tt, (tt, tt))))))))))))))

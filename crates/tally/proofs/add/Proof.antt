@@ -1,14 +1,11 @@
 -- `tally::add` meets its contract, case by case of the outcome.
-use Prim.Native.Nat.{ℕ}
 use native.Mathlib.Omega.{arith}
-use mathlib.Core.Path.{refl, sym, ap, subst, _∙_}
+use mathlib.Core.Path.{refl, sym, ap, subst}
 use borrow.Author.Needs.{needs}
-use Rattle.meaning.specs.declared.Figures.{Figures}
 use Rattle.meaning.specs.Bytes.{at}
 use Rattle.meaning.specs.Waits.{board, cancel}
-use Rattle.meaning.specs.Fit.{oneEnded}
 use Rattle.tally.specs.Adding.{Timed, added}
-use Rattle.tally.proofs.Counting.{wait-is, waited-small, ended-is}
+use Rattle.tally.proofs.Counting.{waited-small, ended-added}
 use Rattle.tally.proofs.add.Statement.{statement}
 use Rattle.tally.proofs.add.Tie as tie
 
@@ -55,21 +52,15 @@ returns : tie.Need-returns
 returns c =
     let s = c .before .before .before .before .before .before .before in
     let o = c .before .before .before .before .outcome .given in
-    let is = c .before .waited .ensures in
-    let long = wait-is (s .args .times .now) _ _ _ (c .before .before .wait .ensures .0) (s .args .start) (o .0 .0) (omega arith) (omega arith) in (
-      ended-is board _ _ _ _ is (omega arith) (omega arith) refl refl refl refl refl refl ∙ ap (λ (d : ℕ). oneEnded board d (s .args .f)) long ∙ sym (ap (added (at (s .args .times .now)) (s .args .start) (s .args .f)) (o .1)),
-      omega (arith, ap (λ (f : Figures). f .total) is, c .before .before .wait .ensures .1),
-    )
+    ended-added (s .args .times .now) (s .args .start) (s .args .f) (s .args .outcome) board (o .0 .0) (ap (added (at (s .args .times .now)) (s .args .start) (s .args .f)) (o .1))
+    _ _ _ (c .before .before .wait .ensures) (omega arith) (omega arith) _ _ (c .before .waited .ensures) (omega arith) (omega arith) refl refl refl refl refl refl
 
 returns-2 : tie.Need-returns-2
 returns-2 c =
     let s = c .before .before .before .before .before .before .before in
     let o = c .before .before .before .before .outcome2 .given in
-    let is = c .before .waited2 .ensures in
-    let long = wait-is (s .args .times .now) _ _ _ (c .before .before .wait2 .ensures .0) (s .args .start) (o .0 .0) (omega arith) (omega arith) in (
-      ended-is cancel _ _ _ _ is (omega arith) (omega arith) refl refl refl refl refl refl ∙ ap (λ (d : ℕ). oneEnded cancel d (s .args .f)) long ∙ sym (ap (added (at (s .args .times .now)) (s .args .start) (s .args .f)) (o .1)),
-      omega (arith, ap (λ (f : Figures). f .total) is, c .before .before .wait2 .ensures .1),
-    )
+    ended-added (s .args .times .now) (s .args .start) (s .args .f) (s .args .outcome) cancel (o .0 .0) (ap (added (at (s .args .times .now)) (s .args .start) (s .args .f)) (o .1))
+    _ _ _ (c .before .before .wait2 .ensures) (omega arith) (omega arith) _ _ (c .before .waited2 .ensures) (omega arith) (omega arith) refl refl refl refl refl refl
 
 returns-3 : tie.Need-returns-3
 returns-3 c =

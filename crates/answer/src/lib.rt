@@ -1,4 +1,6 @@
 // The answer call and the evidence call.
+#![tactic(auto)]
+
 ghost use Rattle.meaning.specs.Promises.{Answered, Shown};
 
 use meaning::Page;

@@ -1,5 +1,7 @@
 // The engine: a cursor for each step of a question, moved on until all fit. It works over lent arrays, and knows neither names nor text. No
 // cursor ever moves back, so that all moves of one page together are at most as many as the lists of the question's steps have records.
+#![tactic(auto)]
+
 ghost use Rattle.std.specs.Prelude.{◌≡◌, ◌+◌, ◌*◌, ◌<◌, ◌≤◌, length};
 ghost use Rattle.meaning.specs.Limits.{most_steps};
 ghost use Rattle.meaning.specs.Bytes.{at};

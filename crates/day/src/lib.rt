@@ -1,4 +1,6 @@
 // The check of a day index.
+#![tactic(auto)]
+
 mod sweep;
 
 ghost use Rattle.meaning.specs.Promises.{Checked};

@@ -1,4 +1,6 @@
 // How far the reading of a question has come: the draft, and what a step or a `]` makes of it.
+#![tactic(auto)]
+
 ghost use Rattle.std.specs.Prelude.{◌≡◌, [], ◌∷◌, ◌+◌, ◌≤◌, length, drop};
 ghost use Rattle.meaning.specs.Answers.{Decides};
 ghost use Rattle.meaning.specs.Limits.{most_text};

@@ -1,4 +1,6 @@
 // Names in fields of 16 bytes, in which a name is filled up with zero bytes.
+#![tactic(auto)]
+
 ghost use Rattle.std.specs.Prelude.{◌≡◌, length};
 ghost use Rattle.meaning.specs.Limits.{most_name};
 ghost use Rattle.meaning.specs.Names.{filled, Sooner};

@@ -1,4 +1,6 @@
 // Little endian numbers in bytes, and the labels of a body.
+#![tactic(auto)]
+
 ghost use Rattle.std.specs.Prelude.{◌≡◌, ◌+◌, ◌*◌, ◌<◌, ◌≤◌, length};
 ghost use Rattle.meaning.specs.Bytes.{u16_at, u32_at};
 ghost use Rattle.meaning.specs.Answers.{Decides};

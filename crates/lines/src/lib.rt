@@ -1,4 +1,6 @@
 // The line that the program prints for a row of evidence.
+#![tactic(auto)]
+
 ghost use Rattle.std.specs.Prelude.{ℕ, ◌+◌, ◌*◌, ◌%◌, ◌≤◌, ◌<◌, ◌≡◌, [], ◌∷◌, length};
 ghost use Rattle.meaning.specs.Limits.{most_steps};
 ghost use Rattle.meaning.specs.Day.{label_at};

@@ -1,4 +1,6 @@
 // Refusal 5: each list looked at by itself.
+#![tactic(auto)]
+
 ghost use Rattle.std.specs.Prelude.{◌<◌};
 ghost use Rattle.meaning.specs.Answers.{Decides};
 ghost use Rattle.meaning.specs.Day.{tags, lists_of, WrongLists};

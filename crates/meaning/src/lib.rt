@@ -1,4 +1,6 @@
 // What the public results are made of, and the limits of document 01, for every crate to share.
+#![tactic(auto)]
+
 ghost use Rattle.std.specs.Prelude.{◌≡◌};
 ghost use Rattle.meaning.specs.Limits.{most_tags, most_labels, most_nested, most_name, most_text, most_steps, most_depth};
 ghost use Rattle.meaning.specs.Pages.{no_step};

@@ -1,4 +1,6 @@
 // The characters of a name, and how far a name reaches in a text.
+#![tactic(auto)]
+
 ghost use Rattle.std.specs.Prelude.{◌≡◌};
 ghost use Rattle.meaning.specs.Names.{initial, further};
 ghost use Rattle.name.specs.Runs.{name_run};

@@ -1,4 +1,6 @@
 // The table of the records that are still open, one inside the other: place 0 has the outermost.
+#![tactic(auto)]
+
 ghost use Rattle.std.specs.Prelude.{◌<◌, length};
 ghost use Rattle.open.specs.Entries.{Stored, Taken};
 

@@ -1,5 +1,7 @@
 // All labels of all lists in order of start. A walk is two lent arrays and a number, and knows what comes next; copies of the three are a
 // walk of their own, which goes on from the same place.
+#![tactic(auto)]
+
 ghost use Rattle.std.specs.Prelude.{◌≡◌, ◌<◌, replicate};
 ghost use Rattle.meaning.specs.Limits.{most_tags};
 ghost use Rattle.meaning.specs.Day.{tags, lists_of};

@@ -1,4 +1,6 @@
 // The reading of a path.
+#![tactic(auto)]
+
 ghost use Rattle.draft.specs.Steps.{MayRead};
 ghost use Rattle.path.specs.Reach.{PathRead};
 

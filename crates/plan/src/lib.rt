@@ -1,4 +1,6 @@
 // The plan of a question: what the engine needs of each step, found once.
+#![tactic(auto)]
+
 ghost use Rattle.std.specs.Prelude.{◌≡◌, ◌<◌, replicate};
 ghost use Rattle.meaning.specs.Limits.{most_steps};
 ghost use Rattle.meaning.specs.Refusals.{Lawful};

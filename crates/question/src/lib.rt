@@ -1,4 +1,6 @@
 // The reading of a question.
+#![tactic(auto)]
+
 ghost use Rattle.std.specs.Prelude.{◌≡◌, ◌+◌, ◌≤◌, length, take, drop};
 ghost use Rattle.question.specs.Promise.{ReadAs};
 

@@ -1,5 +1,7 @@
 // A reader of one list's body: it keeps the body and its place in it. It is made at the first label, hands out the label that comes next, and
 // is moved on from there. Each function over it is thin: the work is done by a function on the slice and the number.
+#![tactic(auto)]
+
 ghost use Rattle.std.specs.Prelude.{◌≡◌, ◌+◌, ◌<◌, ◌^◌};
 ghost use Rattle.reader.specs.Reading.{reader_at, next_at, next_of, LabelNext, onward};
 

@@ -1,4 +1,6 @@
 // What the answer call and the evidence call do.
+#![tactic(auto)]
+
 ghost use Rattle.std.specs.Prelude.{◌≡◌, false};
 ghost use Rattle.meaning.specs.Pages.{no_step};
 ghost use Rattle.response.specs.Response.{Responds};

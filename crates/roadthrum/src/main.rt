@@ -1,4 +1,6 @@
 // Prints the evidence for the question in `query.txt` put to the day in `day.idx`, both in the folder in which it is run.
+#![tactic(auto)]
+
 mod files;
 mod show;
 

@@ -1,4 +1,6 @@
 // The four calls as C and Rust link them; include/roadthrum.h declares them. Each passes on what the inner call promises.
+#![tactic(auto)]
+
 ghost use Rattle.std.specs.Prelude.{◌≤◌, ◌≡◌};
 ghost use Rattle.meaning.specs.Limits.{most_labels};
 ghost use Rattle.meaning.specs.Promises.{Checked, Answered, Shown, Tabled};

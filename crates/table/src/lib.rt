@@ -1,4 +1,6 @@
 // Refusals 1 to 4 of a day index, which are about its table of contents.
+#![tactic(auto)]
+
 ghost use Rattle.std.specs.Prelude.{◌≡◌, ◌+◌, ◌*◌, ◌≤◌, ◌<◌, length};
 ghost use Rattle.meaning.specs.Limits.{most_tags};
 ghost use Rattle.meaning.specs.Day.{tags, row_at, offset, body_at, RowRight};

@@ -1,5 +1,7 @@
 // The waiting table of three bodies: the calls in order of start, each with what ends its wait. One place among the boardings and one among the
 // cancellations move on only forward, and nothing is kept of a call but what it adds to the figures.
+#![tactic(auto)]
+
 ghost use Rattle.std.specs.Prelude.{◌≡◌, ◌+◌, ◌-◌, ◌/◌, ◌≤◌, ◌<◌, max, length};
 ghost use Rattle.meaning.specs.Bytes.{at};
 ghost use Rattle.meaning.specs.Waits.{in_body, traffic_of, Figured};

@@ -1,4 +1,6 @@
 // The times that are lent beside a day index: refusals 20 and 21.
+#![tactic(auto)]
+
 ghost use Rattle.meaning.specs.Answers.{Decides};
 ghost use Rattle.meaning.specs.Waits.{NoEntry, TimesDescend};
 ghost use Rattle.meaning.specs.Refusals.{Lawful, Verdict, times_table};

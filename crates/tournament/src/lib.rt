@@ -1,5 +1,7 @@
 // The least of up to MOST_TAGS numbers, kept while they change: after one of them has changed, only the nodes above it are played again.
 // The m numbers that play stand at m to 2m - 1; node i, from 1 to m - 1, holds the lesser of nodes 2i and 2i + 1.
+#![tactic(auto)]
+
 ghost use Rattle.std.specs.Prelude.{◌≡◌, ◌+◌, ◌*◌, ◌%◌, ◌<◌, ◌≤◌, length};
 ghost use Rattle.meaning.specs.Limits.{most_tags};
 ghost use Rattle.meaning.specs.Bytes.{at};

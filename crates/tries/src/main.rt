@@ -1,6 +1,8 @@
 // Runs the rows of document 01's table that are not proved, its questions to the small day, which are, and days of the papers.
 // What they should give was worked out by hand from the rules and stands in `stdout`, to which the run is held. Beside the papers' days
 // stands why. All rows of the table, with every number of every buffer, are compared with the evaluators in rust/compare/tests/table.rs.
+#![tactic(auto)]
+
 
 // A number, to be printed.
 fn wide(x: u32) -> u64 {

@@ -1,4 +1,6 @@
 // One turn of the sweep of all lists in order of start, with all its decisions; the loop and the table are the caller's.
+#![tactic(auto)]
+
 ghost use Rattle.std.specs.Prelude.{◌≡◌, ◌-◌, ◌<◌};
 ghost use Rattle.meaning.specs.Limits.{most_nested};
 ghost use Rattle.meaning.specs.Answers.{Decides};

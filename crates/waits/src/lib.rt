@@ -1,4 +1,6 @@
 // The waits call.
+#![tactic(auto)]
+
 ghost use Rattle.meaning.specs.Promises.{Tabled};
 
 use contents::lookup;

@@ -4,7 +4,7 @@ use mathlib.Core.Bool.{false}
 use mathlib.Core.List.{List, [], ◌∷◌, ◌++◌}
 use Prim.Native.Nat.{ℕ}
 use Rattle.meaning.specs.Notation.{Path, path, After, finish, bracket, next}
-use Rattle.meaning.proofs.Cases.{ample, Asking}
+use Rattle.meaning.proofs.Cases.{ample}
 use Rattle.meaning.proofs.Cases.SmallDay.{bytes, label, row, head, small_day}
 use Rattle.meaning.proofs.Cases.Stars.{call, board, lobby}
 use Rattle.meaning.proofs.Cases.Call.{Call, accepts, CallsRight, call_b, calls_right}

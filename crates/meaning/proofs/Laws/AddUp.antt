@@ -2,7 +2,7 @@
 use Prim.Native.Nat.{ℕ, zero, suc, ◌+◌, ◌≤◌, ◌<◌}
 use native.Mathlib.Omega.{arith}
 use mathlib.Core.Path.{◌≡◌, refl}
-use mathlib.Core.Logic.{◌⊎◌, inl, inr, ⊎_elim}
+use mathlib.Core.Logic.{inl, inr, ⊎_elim}
 use Rattle.meaning.specs.declared.Figures.{Figures}
 use Rattle.meaning.specs.Waits.{Ending, board, cancel, Traffic, Within, Ends, Ended, Closed, Open, wait_until, Figured}
 use Rattle.meaning.specs.Fit.{Sound}

@@ -1,8 +1,8 @@
 -- The waiting table: what ends a call's wait is one, its figures are one, and what one call more makes of them.
-use Prim.Native.Nat.{ℕ, ◌+◌, max}
+use Prim.Native.Nat.{ℕ, ◌+◌}
 use native.Mathlib.Omega.{arith}
 use mathlib.Core.Path.{◌≡◌, refl, sym, ◌∙◌}
-use mathlib.Core.Logic.{◌⊎◌, inl, inr, ⊎_elim}
+use mathlib.Core.Logic.{inl, inr, ⊎_elim}
 use Rattle.meaning.specs.declared.Figures.{Figures}
 use Rattle.meaning.specs.Waits.{Ending, board, cancel, Traffic, of_ending, Ends, Ended, Closed, Open, wait_until, Waited, none, Number, nobody, Figured, no_figures}
 use Rattle.meaning.specs.Fit.{Sound, one_ended, one_open}

@@ -31,7 +31,8 @@ def files(ends):
     for folder, dirs, names in os.walk(os.path.join(ROOT, "crates")):
         dirs[:] = sorted(d for d in dirs if d != "out")
         for name in sorted(names):
-            if name.endswith(ends):
+            # the toolchain names the goals that these answer, with dashes
+            if name.endswith(ends) and name not in ("Answers.antt", "Invariants.antt"):
                 yield os.path.join(folder, name)
 
 
@@ -46,7 +47,7 @@ def kit_names():
     for path in files((".antt", ".rt")):
         for line in read(path).splitlines():
             m = re.match(r"\s*(?:ghost )?use ([\w.+·'-]+)\.\{(.*)\}", line)
-            if m and not re.match(r"Rattle\.(?!std\.)", m.group(1)):
+            if m and not re.match(r"Rattle[·.](?!std\.)", m.group(1)):
                 found |= {n.split(" as ")[0].strip() for n in m.group(2).split(",")}
     return found
 

@@ -8,7 +8,7 @@ ghost use Rattle.reader.specs.Reading.{reader_at, next_at, next_of, LabelNext, o
 use label::{end_at, start_at};
 use meaning::Label;
 
-#[derive(Drop)]
+#[derive(Clone, Copy)]
 pub struct Reader<'a> {
     pub body: &'a [u8],
     // The number of the label that comes next.
@@ -16,7 +16,7 @@ pub struct Reader<'a> {
 }
 
 // What comes next in a body.
-#[derive(Drop)]
+#[derive(Clone, Copy)]
 pub enum Next {
     // A label, as its two numbers: held as a struct they would be read by one load of 8 bytes and then be taken apart.
     Label { start: u32, end: u32 },

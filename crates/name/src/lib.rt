@@ -6,6 +6,7 @@ ghost use Rattle.meaning.specs.Names.{initial, further};
 ghost use Rattle.name.specs.Runs.{name_run};
 
 // Whether a name may begin with c: an ASCII letter or `_`.
+#[tactic(auto, unfolding(meaning::specs::Names::initial))]
 pub fn may_begin(c: u8) -> bool
     ensures { result ≡ initial c }
 {
@@ -25,6 +26,7 @@ pub fn may_begin(c: u8) -> bool
 }
 
 // Whether a name may go on with c: what may begin it, a digit, `-` or `.`.
+#[tactic(auto, unfolding(meaning::specs::Names::further))]
 pub fn may_follow(c: u8) -> bool
     ensures { result ≡ further c }
 {
@@ -44,6 +46,7 @@ pub fn may_follow(c: u8) -> bool
 }
 
 // How many bytes of s, from its first on, may be a name; 0 where the first may not begin one. It may be more than a name has.
+#[tactic(auto, using(crate::proofs::RunLaws::begins, crate::proofs::RunLaws::begins_not, crate::proofs::RunLaws::begins_empty, crate::proofs::RunLaws::run_on, crate::proofs::RunLaws::run_stops, crate::proofs::RunLaws::run_ends))]
 pub fn name_run(s: &[u8]) -> usize
     ensures { result ≡ name_run s.now }
 {

@@ -2,6 +2,5 @@
 pub mod Fixed
 pub mod Blank
 pub mod Bytes
-pub mod OneStep
 pub mod Lengths
 pub mod Closing

@@ -29,6 +29,7 @@ pub struct Draft {
 }
 
 // How long the name is of the step, `//` and a name, at `at`; 0 where no step stands there.
+#[tactic(auto, using(crate::proofs::Lengths::too_near, crate::proofs::Lengths::too_long, crate::proofs::Lengths::run_length))]
 fn step_length(text: &[u8], at: usize) -> usize
     requires { at ≤ length text.now }
     ensures { LengthAt text.now at result }
@@ -71,6 +72,7 @@ pub fn ends(text: &[u8], at: usize) -> bool
 
 impl Draft {
     // One step more, with its `//` where the reading is, and a name of so many bytes.
+    #[tactic(auto, unfolding(crate::specs::Drafts::grown))]
     fn with(mut self, bytes: usize, hang: u16, depth: u16) -> Draft
         requires { Space bytes hang self }
         ensures { result ≡ grown self (record { start = self.at + 2; length = bytes; hangs = hang } ∷ []) depth (self.at + 2 + bytes) self.count }
@@ -127,15 +129,16 @@ impl Draft {
 pub fn blank_steps() -> [Step; Step::MOST]
     ensures { result ≡ filled_up [] }
 {
-    let none = Step {
+    const NONE: Step = Step {
         start: 0,
         length: 0,
         hangs: 0,
     };
-    [none; Step::MOST]
+    [NONE; Step::MOST]
 }
 
 // A draft that holds nothing but whether the text is broken: the one before the first byte, and that of a broken text.
+#[tactic(auto, unfolding(crate::specs::Drafts::blank_draft))]
 pub fn blank_draft(broken: bool) -> Draft
     ensures { result ≡ blank_draft broken }
 {

@@ -36,6 +36,7 @@ pub fn has_name(field: &[u8]) -> bool
 }
 
 // Whether the name in field x comes before that in field y.
+#[tactic(auto, using(crate::proofs::FieldLaws::sooner_yes, crate::proofs::FieldLaws::sooner_no, crate::proofs::FieldLaws::sooner_equal, meaning::specs::Answers::holds, meaning::specs::Answers::fails))]
 pub fn comes_before(x: &[u8], y: &[u8]) -> bool
     requires { (length x.now ≡ most_name) × (length y.now ≡ most_name) }
     ensures { Decides (Sooner x.now y.now) result }
@@ -56,6 +57,7 @@ pub fn comes_before(x: &[u8], y: &[u8]) -> bool
 }
 
 // Whether `name`, filled up with zero bytes, stands in the field. It may be any bytes, and more than 16 of them.
+#[tactic(auto, using(crate::proofs::FieldLaws::not_longer, meaning::specs::Answers::fails))]
 pub fn is_filled(field: &[u8], name: &[u8]) -> bool
     requires { length field.now ≡ most_name }
     ensures { Decides (field.now ≡ filled name.now) result }

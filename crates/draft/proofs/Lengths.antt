@@ -16,7 +16,7 @@ use Rattle.name.specs.Runs.{name_run}
 use Rattle.name.proofs.RunLaws.{run_within, run_name, run_after, run_of_name}
 use Rattle.draft.specs.declared.Draft.{Draft}
 use Rattle.draft.specs.Drafts.{grown}
-use Rattle.draft.specs.Steps.{Space, MayRead, FoundStep, NoStep, LengthAt, long, none, StepRead, taken}
+use Rattle.draft.specs.Steps.{Space, MayRead, FoundStep, LengthAt, long, none, StepRead, taken}
 
 -- The rest of a text from place k on, by its length, has the run that it has.
 whole_run : (t : List ℕ) (k : ℕ) → name_run (take (length t - k) (drop k t)) ≡ name_run (drop k t)

@@ -101,7 +101,8 @@ pub fn write_line(
     let mut to = 0;
     let mut s = 0;
     while s < k {
-        if 0 < s {
+        let behind = 0 < s;
+        if behind {
             to = put(line, to, b' ');
         }
         let at = offsets[s];

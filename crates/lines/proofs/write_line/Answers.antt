@@ -9,7 +9,7 @@ use Rattle.meaning.specs.Printing.{LineText}
 use Rattle.lines.specs.Adding.{AddsRecord}
 use Rattle.lines.proofs.StepLaws.{MayWrite, write_same, write_first, write_next, begun_more, begun_room, line_of, line_kept}
 use Rattle.lines.proofs.write_line.Goals as goal
-use Rattle.lines.proofs.write_line.Goals.{then-s-gt0, else-s-gt0}
+use Rattle.lines.proofs.write_line.Goals.{then-behind, else-behind}
 
 -- The labels of the row that stands in `rows` from `from` on, step by step.
 abbrev labels_of : List ℕ → List ℕ → List ℕ → ℕ → ℕ → Label
@@ -18,12 +18,12 @@ labels_of index offsets rows from s = label_at index (at offsets s) (at rows (fr
 pub loop-s-preserved : goal.loop-s-preserved
 loop-s-preserved c =
     let begun = c.loop-s.invariant.1 in
-    let ready : MayWrite (labels_of c.args.index.now c.args.offsets.now c.args.rows.now c.args.from) c.args.line.now c.if-s-gt0.line c.if-s-gt0.to c.loop-s.s =
-    elim c.if-s-gt0.branch [
-      | then-s-gt0 w ↦ write_same w.line-is w.to-is (write_next begun (omega arith) w.put-to.ensures)
-      | else-s-gt0 w ↦ write_same w.line-is w.to-is (write_first begun (omega arith))
+    let ready : MayWrite (labels_of c.args.index.now c.args.offsets.now c.args.rows.now c.args.from) c.args.line.now c.if-behind.line c.if-behind.to c.loop-s.s =
+    elim c.if-behind.branch [
+      | then-behind w ↦ write_same w.line-is w.to-is (write_next begun (omega arith) w.put-to.ensures)
+      | else-behind w ↦ write_same w.line-is w.to-is (write_first begun (omega arith))
     ] in
-    (omega arith, begun_more ready (subst (λ (x : Label). AddsRecord x c.if-s-gt0.line c.if-s-gt0.to c.put_record-to.new.line c.put_record-to.result) c.label_at.ensures c.put_record-to.ensures))
+    (omega arith, begun_more ready (subst (λ (x : Label). AddsRecord x c.if-behind.line c.if-behind.to c.put_record-to.new.line c.put_record-to.result) c.label_at.ensures c.put_record-to.ensures))
 
 pub returns : goal.returns
 returns c =

@@ -11,7 +11,7 @@ use contents::rows;
 use reader::Next;
 
 // What the look at a list has found so far.
-#[derive(Drop)]
+#[derive(Clone, Copy)]
 pub struct Look {
     // Whether it goes on, and else whether the list is wrong.
     pub going: bool,
@@ -38,7 +38,8 @@ fn look_at(next: Next, low: u32) -> Look
             low: 0,
         };
     }
-    if start < low {
+    let early = start < low;
+    if early {
         return Look {
             going: false,
             wrong: true,

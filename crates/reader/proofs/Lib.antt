@@ -1,3 +1,2 @@
--- What a reader hands out, as its callers use it, and its type for those who walk code by hand.
+-- What a reader hands out, as its callers use it.
 pub mod ReaderLaws
-pub mod Held

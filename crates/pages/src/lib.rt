@@ -36,6 +36,7 @@ fn put_row(out: &mut [u32], to: usize, pos: &[usize; Step::MOST], step: usize, w
 }
 
 // A page from `place` on: for each record the positions of `width` steps, from `step` on. It tells the unknown step that it is given.
+#[tactic(auto, using(cursors::proofs::SettleTurns::ret_of))]
 pub fn write_page(
     index: &[u8],
     k: usize,

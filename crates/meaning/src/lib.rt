@@ -7,7 +7,7 @@ ghost use Rattle.meaning.specs.Pages.{no_step};
 ghost use Rattle.meaning.specs.Waits.{no_figures};
 
 // What a call says of the page that it wrote. A refusal has its number, 0 rows, no further record, next place 0 and no unknown step.
-#[derive(Drop)]
+#[derive(Clone, Copy)]
 pub struct Page {
     // The number of the refusal table, or 0.
     pub refusal: u32,
@@ -33,7 +33,7 @@ impl Page {
 }
 
 // The waiting table of a day. A refusal has its number, and all figures are 0.
-#[derive(Drop)]
+#[derive(Clone, Copy)]
 pub struct Figures {
     // The number of the refusal table, or 0.
     pub refusal: u32,
@@ -68,7 +68,7 @@ impl Figures {
 }
 
 // A label: the numbers at which a record starts and ends.
-#[derive(Drop)]
+#[derive(Clone, Copy)]
 pub struct Label {
     pub start: u32,
     pub end: u32,
@@ -92,14 +92,14 @@ impl Label {
 }
 
 // A tag's list in an index: where its body begins, and its number of labels.
-#[derive(Drop)]
+#[derive(Clone, Copy)]
 pub struct Body {
     pub offset: usize,
     pub count: usize,
 }
 
 // What looking up a name finds: the list of the row that has the name, or that no row has it.
-#[derive(Drop)]
+#[derive(Clone, Copy)]
 pub enum Found {
     Known(Body),
     Unknown,
@@ -152,7 +152,7 @@ impl Name {
 }
 
 // A step of a question that was read.
-#[derive(Drop)]
+#[derive(Clone, Copy)]
 pub struct Step {
     // Where its name starts in the text, and how long it is.
     pub start: u16,
@@ -184,7 +184,7 @@ impl Step {
 }
 
 // A question that was read: its steps in text order, how many there are, and which one is returned. Entries past the last step are blank.
-#[derive(Drop)]
+#[derive(Clone, Copy)]
 pub struct Question {
     pub steps: [Step; Step::MOST],
     pub count: usize,

@@ -14,6 +14,7 @@ use filled::{comes_before, has_name};
 use meaning::{Index, Label};
 
 // Whether row r comes after the row before it, if there is one.
+#[tactic(auto, using(crate::proofs::RowLaws::first_in_order, crate::proofs::RowLaws::later_in_order, meaning::specs::Answers::holds))]
 fn in_order(index: &[u8], r: usize) -> bool
     requires { row_at r + 24 ≤ length index.now }
     ensures { Decides (InOrder index.now r) result }
@@ -27,6 +28,7 @@ fn in_order(index: &[u8], r: usize) -> bool
 }
 
 // Whether the body of row r begins at `place`. That may be more than the 32 bits of an offset can say, so the two are compared as usize.
+#[tactic(auto, using(meaning::proofs::Decide::decides_as, meaning::proofs::Decide::eq_decides))]
 fn begins_at(index: &[u8], r: usize, place: usize) -> bool
     requires { row_at r + 24 ≤ length index.now }
     ensures { Decides (offset index.now r ≡ place) result }
@@ -35,6 +37,7 @@ fn begins_at(index: &[u8], r: usize, place: usize) -> bool
 }
 
 // Whether row r is right, where its body has to begin at `place`.
+#[tactic(auto, using(crate::proofs::RowLaws::row_as, crate::proofs::RowLaws::row_named, meaning::specs::Answers::fails))]
 fn row_right(index: &[u8], r: usize, place: usize) -> bool
     requires { (row_at r + 24 ≤ length index.now) × (place ≡ body_at index.now r) }
     ensures { Decides (RowRight index.now r) result }
@@ -56,6 +59,7 @@ struct Rows {
 }
 
 // Looks at all rows. The sum is exact: 256 counts of 32 bits fit a usize many times over.
+#[tactic(auto, using(crate::proofs::RowLaws::counted_begin, crate::proofs::RowLaws::counted_on, crate::proofs::RowLaws::counted_end, meaning::proofs::Decide::if_not_true, meaning::proofs::Decide::if_not_false))]
 fn all_rows(index: &[u8], many: usize) -> Rows
     requires { (many ≡ tags index.now) × (many ≤ most_tags) × (row_at many ≤ length index.now) }
     ensures { AllRows index.now result.ok result.labels }
@@ -77,6 +81,7 @@ fn all_rows(index: &[u8], many: usize) -> Rows
 }
 
 // The number of the first reason of 1 to 4 for which the index is refused, or 0.
+#[tactic(auto, using(crate::proofs::TableLaws::refused_1, crate::proofs::TableLaws::refused_2, crate::proofs::TableLaws::refused_3, crate::proofs::TableLaws::refused_4, crate::proofs::TableLaws::accepted))]
 pub fn refusal(index: &[u8]) -> u32
     ensures { Verdict (contents_table index.now) result }
 {

@@ -11,6 +11,7 @@ use contents::rows;
 use meaning::Body;
 
 // Whether a label of a list ends at a number that has none of so many entries.
+#[tactic(auto, using(meaning::specs::Answers::holds, meaning::specs::Answers::fails))]
 fn ends_past(index: &[u8], list: Body, entries: usize) -> bool
     requires { InIndex index.now list }
     ensures { Decides (EndsPast index.now list entries) result }
@@ -43,6 +44,7 @@ fn entry_missing(index: &[u8], times: &[u32]) -> bool
 
 // Whether an entry anywhere in the list is smaller than the one before. The loop has no other way out than its end, so that the compiler may
 // look at many entries at once.
+#[tactic(auto, using(crate::proofs::Looking::descend_begin, crate::proofs::Looking::descend_here, crate::proofs::Looking::descend_on, crate::proofs::Looking::descend_end))]
 fn descend(times: &[u32]) -> bool
     ensures { Decides (TimesDescend times.now) result }
 {
@@ -58,6 +60,7 @@ fn descend(times: &[u32]) -> bool
 }
 
 // The number of the first reason for which the times of a lawful index are refused, or 0. Both passes are made before either is judged.
+#[tactic(auto, using(meaning::proofs::Decide::if_true, meaning::proofs::Decide::if_false, meaning::specs::Refusals::given, meaning::specs::Refusals::clear))]
 pub fn refusal(index: &[u8], times: &[u32]) -> u32
     requires { Lawful index.now }
     ensures { Verdict (times_table index.now times.now) result }

@@ -1,5 +1,5 @@
 -- The lists' places in the index, their keys, and how a walk begins.
-use Prim.Native.Nat.{ℕ, ◌+◌, ◌*◌, ◌-◌, ◌≤◌, ◌<◌}
+use Prim.Native.Nat.{ℕ, ◌+◌, ◌*◌, ◌≤◌, ◌<◌}
 use native.Mathlib.Nat.{eq-or-lt_of_le, ne_of_lt}
 use native.Mathlib.Omega.{arith}
 use mathlib.Core.Path.{◌≡◌, refl, ap, subst, ◌∙◌}
@@ -10,7 +10,7 @@ use lib.Seq.{get_or-set_same, get_or-set_other}
 use Rattle.meaning.specs.Limits.{most_tags}
 use Rattle.meaning.specs.Bytes.{u32_at}
 use Rattle.meaning.specs.Labels.{Lists}
-use Rattle.meaning.specs.Day.{tags, offset, count, label_at, lists_of}
+use Rattle.meaning.specs.Day.{tags, offset, label_at, lists_of}
 use Rattle.meaning.specs.Bytes.{at}
 use Rattle.tournament.specs.Tournament.{numbers, nodes, past, Tree, SameLeaves, Root}
 use Rattle.order.specs.Keys.{Key, Keys}

@@ -34,7 +34,8 @@ pub fn read(text: &[u8]) -> Reading
     ensures { ReadAs text.now result }
 {
     let blank = blank_steps();
-    if text.len() > Question::MOST_BYTES {
+    let too_long = text.len() > Question::MOST_BYTES;
+    if too_long {
         return refused(7, blank);
     }
     let d = read_path(text, Step::NOTHING as u16, 0, blank_draft(false));
@@ -42,15 +43,18 @@ pub fn read(text: &[u8]) -> Reading
         return refused(8, blank); // No path stands there.
     }
     let rest = text.len() - d.at as usize;
-    if rest > 0 {
+    let goes_on = rest > 0;
+    if goes_on {
         return refused(8, blank); // The text goes on behind the path.
     }
     let steps = d.steps;
     let count = d.count as usize;
-    if count > Step::MOST {
+    let too_many = count > Step::MOST;
+    if too_many {
         return refused(9, blank); // It has too many steps.
     }
-    if d.deepest as usize > Step::MOST_DEPTH {
+    let too_deep = d.deepest as usize > Step::MOST_DEPTH;
+    if too_deep {
         return refused(9, blank); // Its brackets go too deep.
     }
     let returned = d.last as usize;

@@ -30,6 +30,7 @@ pub enum Outcome {
 }
 
 // Looks from a call at the records of a body, of which those before `from` start no later than the call.
+#[tactic(auto, using(crate::proofs::Sighting::moves_on))]
 fn look(body: &[u8], from: usize, call: Label) -> Sight
     requires { Ascends body.now 0 (length body.now / 8) × Between body.now 0 (length body.now / 8) call.start from (length body.now / 8) × Whole (in_body body.now) call }
     ensures { Sees body.now call result }

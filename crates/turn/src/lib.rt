@@ -12,7 +12,7 @@ use open::Open;
 use order::Coming;
 
 // What the sweep carries from turn to turn, beside the table.
-#[derive(Drop)]
+#[derive(Clone, Copy)]
 pub struct State {
     // Whether it goes on, and else whether something is wrong.
     pub going: bool,
@@ -118,7 +118,8 @@ fn refused(depth: usize, inner: Open, start: u32, end: u32) -> bool
     if inner.end <= end {
         return true;
     }
-    if depth == Label::MOST_NESTED {
+    let full = depth == Label::MOST_NESTED;
+    if full {
         return true;
     }
     false

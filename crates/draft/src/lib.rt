@@ -129,12 +129,12 @@ impl Draft {
 pub fn blank_steps() -> [Step; Step::MOST]
     ensures { result ≡ filled_up [] }
 {
-    const NONE: Step = Step {
+    let none = Step {
         start: 0,
         length: 0,
         hangs: 0,
     };
-    [NONE; Step::MOST]
+    [none; Step::MOST]
 }
 
 // A draft that holds nothing but whether the text is broken: the one before the first byte, and that of a broken text.

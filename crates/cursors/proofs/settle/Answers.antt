@@ -48,12 +48,12 @@ look-requires c = (
 pub loop-s-smaller-in-Early : goal.loop-s-smaller-in-Early
 loop-s-smaller-in-Early c =
     let see = c.in-Early.ensures in
-    jump_less _ _ _ _ _ _ c.requires.0 _ _ _ c.loop-s.invariant c.loop-s-test.true c.if-n-p.false _ refl c.if-u.false _ (raised _ _ _ _ _ _ c.requires.0 _ _ _ c.loop-s.invariant c.loop-s-test.true c.if-n-p.false _ refl c.if-u.false _ see.0 see.1)
+    jump_less _ _ _ _ _ _ c.requires.0 _ _ _ c.loop-s.invariant c.loop-s-test.true c.if-n-p.false _ refl c.if-u.false _ (omega (arith, raised _ _ _ _ _ _ c.requires.0 _ _ _ c.loop-s.invariant c.loop-s-test.true c.if-n-p.false _ refl c.if-u.false _ see.0 see.1))
 
 pub loop-s-preserved-in-Early : goal.loop-s-preserved-in-Early
 loop-s-preserved-in-Early c =
     let see = c.in-Early.ensures in
-    turn_jump _ _ _ _ _ _ c.requires.0 _ _ _ c.loop-s.invariant c.loop-s-test.true c.if-n-p.false _ refl c.if-u.false _ see.0 see.1 _ (raised _ _ _ _ _ _ c.requires.0 _ _ _ c.loop-s.invariant c.loop-s-test.true c.if-n-p.false _ refl c.if-u.false _ see.0 see.1) (omega arith)
+    turn_jump _ _ _ _ _ _ c.requires.0 _ _ _ c.loop-s.invariant c.loop-s-test.true c.if-n-p.false _ refl c.if-u.false _ see.0 see.1 _ (omega (arith, raised _ _ _ _ _ _ c.requires.0 _ _ _ c.loop-s.invariant c.loop-s-test.true c.if-n-p.false _ refl c.if-u.false _ see.0 see.1)) (omega arith)
 
 pub overflow_add-pos : goal.overflow_add-pos
 overflow_add-pos c =

@@ -2,4 +2,3 @@
 pub mod CheckLaws
 pub mod Rounds
 pub mod Looping
-pub mod Lending

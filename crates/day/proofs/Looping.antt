@@ -1,14 +1,9 @@
 -- The loop of `turns`, with no mention of memory: what holds between turns, that a turn keeps it, and that a turn lowers the weight.
-use mathlib.Core.Path.{◌≡◌, refl, ◌∙◌, subst}
+use mathlib.Core.Path.{◌≡◌, ◌∙◌, subst}
 use Prim.Native.Nat.{ℕ, ◌<◌}
-use mathlib.Core.Bool.{Bool, true, false, not}
-use mathlib.Core.List.{[], ◌∷◌, List}
-use mathlib.Core.WellFounded.InvImage
-use mathlib.Core.WellFounded.{WellFounded}
-use lib.Dec.{T as Holds}
+use mathlib.Core.Bool.{Bool, true, false}
+use mathlib.Core.List.{List}
 use lib.ListN.{length, set, length-set}
-use lib.WfN.{lt-wf_rel}
-use denote.Laws.{Is}
 use Rattle.meaning.specs.Limits.{most_nested}
 use Rattle.meaning.specs.Answers.{Decides}
 use Rattle.meaning.specs.Day.{WrongNesting}
@@ -19,34 +14,11 @@ use Rattle.turn.specs.declared.State.{State}
 use Rattle.turn.specs.Sweep.{Turned}
 use Rattle.turn.proofs.Stack.{Judged}
 use Rattle.turn.proofs.Judging.{turn_judged}
-use Rattle.turn.specs.contracts.State as S
-use Rattle.turn.proofs.State.TheLaws as S'
 use Rattle.day.proofs.Rounds.{AtTurn, Round, reread, weight, round_less, round_push, round_pop}
-
--- A test that holds is true.
-pub truth : (y : Bool) → Holds y → y ≡ true
-truth true _ = refl
-truth false z = absurd z
-
--- A test that does not hold is false.
-pub falsity : (y : Bool) → Holds (not y) → y ≡ false
-falsity true z = absurd z
-falsity false _ = refl
 
 -- What holds between turns of the tournament, the cursors, the state and the table.
 abbrev pub Facts : List ℕ → ℕ → List ℕ → List ℕ → State → List Open → Type 0
-Facts ix m tr ps s ys = (length ys ≡ most_nested) × Round s.going ix m tr ps ys s × Is S.the_row s (S'.lowered s ∷ [])
-
--- A place between two turns.
-abbrev pub Turn : List ℕ → ℕ → Type 0
-Turn ix m = (tr : List ℕ) × (ps : List ℕ) × (s : State) × (ys : List Open) × Facts ix m tr ps s ys
-
--- The loop's order: by weight.
-abbrev pub Less : (ix : List ℕ) (m : ℕ) → Turn ix m → Turn ix m → Type 0
-Less ix m x y = weight ix x.1 x.2 < weight ix y.1 y.2
-
-pub less_wf : (ix : List ℕ) (m : ℕ) → WellFounded (Less ix m)
-less_wf ix m = InvImage.wf (λ (x : Turn ix m). weight ix x.1 x.2) lt-wf_rel.wf
+Facts ix m tr ps s ys = (length ys ≡ most_nested) × Round s.going ix m tr ps ys s
 
 module _ (ix : List ℕ) (m : ℕ) (tr ps : List ℕ) (s : State) (ys : List Open) (f : Facts ix m tr ps s ys) (g : s.going ≡ true) where
   -- While the loop goes on the sweep stands between two turns.
@@ -63,12 +35,12 @@ module _ (ix : List ℕ) (m : ℕ) (tr ps : List ℕ) (s : State) (ys : List Ope
     lowers = round_less ix m tr ps ys s stands.0 stands.1 tr' ps' s' judged g
 
     -- A record that is opened goes to the table.
-    pub puts : s'.put ≡ true → Is S.the_row s' (S'.lowered s' ∷ []) → Facts ix m tr' ps' s' (set ys s'.at s'.inner)
-    puts p is = (length-set ys s'.at s'.inner ∙ f.0, round_push ix m tr ps ys s stands.0 stands.1 tr' ps' s' judged p f.0, is)
+    pub puts : s'.put ≡ true → Facts ix m tr' ps' s' (set ys s'.at s'.inner)
+    puts p = (length-set ys s'.at s'.inner ∙ f.0, round_push ix m tr ps ys s stands.0 stands.1 tr' ps' s' judged p f.0)
 
     -- Where a record is closed, the one that is innermost then comes from the table.
-    pub takes : s'.put ≡ false → (let r : State = reread s' (entry ys s'.at) in Is S.the_row r (S'.lowered r ∷ []) → Facts ix m tr' ps' r ys)
-    takes p is = (f.0, round_pop ix m tr ps ys s stands.0 stands.1 tr' ps' s' judged p, is)
+    pub takes : s'.put ≡ false → Facts ix m tr' ps' (reread s' (entry ys s'.at)) ys
+    takes p = (f.0, round_pop ix m tr ps ys s stands.0 stands.1 tr' ps' s' judged p)
 
 -- When the sweep is over its answer is right.
 pub answers : (ix : List ℕ) (m : ℕ) (tr ps : List ℕ) (s : State) (ys : List Open) → Facts ix m tr ps s ys → s.going ≡ false → Decides (WrongNesting ix) s.wrong

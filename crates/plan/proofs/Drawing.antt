@@ -14,7 +14,7 @@ use Rattle.meaning.specs.Limits.{most_steps}
 use Rattle.meaning.specs.Labels.{Inside, Apart}
 use Rattle.meaning.specs.declared.Found.{Found}
 use Rattle.meaning.specs.declared.Found.TheVariants.{Known, Unknown}
-use Rattle.meaning.specs.Day.{offset, count, label_at, Finds, list_of}
+use Rattle.meaning.specs.Day.{label_at, Finds, list_of}
 use Rattle.meaning.specs.Notation.{Path, Hook, nothing, from, steps, returned_step}
 use Rattle.meaning.specs.Bytes.{at}
 use Rattle.meaning.specs.Picks.{Asked, asked, step_at}

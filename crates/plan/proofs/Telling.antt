@@ -1,7 +1,7 @@
 -- The first unknown step with one step more, whose name is unknown.
 use Prim.Native.Nat.{ℕ, ◌+◌, ◌<◌}
 use native.Mathlib.Omega.{arith}
-use mathlib.Core.Path.{◌≡◌, refl, sym, subst}
+use mathlib.Core.Path.{refl, sym, subst}
 use Rattle.meaning.specs.Pages.{no_step, First, here, nowhere}
 use Rattle.meaning.proofs.Laws.Found.{first_kept, first_new}
 use Rattle.plan.specs.Drawn.{FirstOf}

@@ -3,6 +3,7 @@ use Rattle.std.proofs.Common.{arith, refl}
 use Rattle.meaning.proofs.Decide.{if_true, if_false}
 use Rattle.turn.specs.Sweep.{closes, refuses, opens}
 use Rattle.turn.proofs.Turning.{turn_room}
+use Rattle.turn.proofs.Judging.{turned_fits}
 use Rattle.turn.proofs.judge.Goals as goal
 
 pub overflow_sub-depth : goal.overflow_sub-depth
@@ -23,5 +24,6 @@ pub returns-clause-turned : goal.returns-clause-turned
 returns-clause-turned c =
     opens _ _ _ _ _ c.in-Label.ensures (if_false c.closes.ensures c.if-closes.false) (if_false c.refused.ensures c.if-refused.false) c.pass-least.ensures c.opened.ensures
 
+-- That the place lies in the table follows from what the turn decides.
 pub returns-clause-fits : goal.returns-clause-fits
-returns-clause-fits c = rw c.opened.ensures (turn_room c.args.s _ _ c.requires.shallow (if_false c.refused.ensures c.if-refused.false))
+returns-clause-fits c = turned_fits _ _ _ _ _ c.requires _ _ _ (returns-clause-turned c)

@@ -28,7 +28,8 @@ pub fn respond(index: &[u8], text: &[u8], place: u32, out: &mut [u32], whole: bo
     ensures { Responds whole index.now text.now place out.old out.new result }
 {
     let wrong = day::check(index);
-    if wrong != 0 {
+    let unlawful = wrong != 0;
+    if unlawful {
         return refused(wrong);
     }
     let reading = question::read(text);

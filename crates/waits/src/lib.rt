@@ -11,11 +11,13 @@ pub fn waits(index: &[u8], times: &[u32]) -> Figures
     ensures { Tabled index.now times.now result }
 {
     let wrong = day::check(index);
-    if wrong != 0 {
+    let refused = wrong != 0;
+    if refused {
         return Figures::none(wrong);
     }
     let untimely = times::refusal(index, times);
-    if untimely != 0 {
+    let untimed = untimely != 0;
+    if untimed {
         return Figures::none(untimely);
     }
     tally::tally(

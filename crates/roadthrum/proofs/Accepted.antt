@@ -112,7 +112,7 @@ module _ (b text : List ℕ) (place : ℕ) (entry rows : List ℕ) (r : Page) (x
     where
       below : {Such : ℕ → Type 0} {many n : ℕ} → First Such many n → (n ≡ no_step → ⊥) → n < many
       below (here l such before) some = l
-      below (nowhere no_step) some = absurd (some refl)
+      below (nowhere _) some = absurd (some refl)
 
   -- With room for the longest row, a page that leaves a record over names a later place.
   pub onward : most_steps ≤ length entry → r.more ≡ true → place < r.next

@@ -1,6 +1,10 @@
 // Reading a file.
 ghost use Rattle.roadthrum.specs.Files.{Fits};
 
+use std::fs;
+use std::io::Read;
+use std::rt::Files;
+
 // What was read of a file: how many bytes it put at the beginning of the buffer, or that the file can't be read.
 #[derive(Drop)]
 pub enum File {
@@ -9,17 +13,15 @@ pub enum File {
 }
 
 // Reads until the buffer is full or the file ends. Bytes may arrive in pieces; a folder can be opened, and its first read fails.
-fn fill(fd: i32, buffer: &mut [u8]) -> File
+fn fill(open: &mut impl Read, buffer: &mut [u8]) -> File
     ensures { Fits result buffer.new }
 {
     let mut done = 0;
     while done < buffer.len() {
         let part = &mut buffer[done..];
-        let got = libc::read(fd, part);
-        if got < 0 {
+        let Ok(n) = open.read(part) else {
             return File::Unreadable;
-        }
-        let n = io::count(got, part);
+        };
         if n == 0 {
             return File::Holds(done);
         }
@@ -29,14 +31,11 @@ fn fill(fd: i32, buffer: &mut [u8]) -> File
 }
 
 // Reads the beginning of the file, as much of it as the buffer holds.
-pub fn read_file(path: &[u8], buffer: &mut [u8]) -> File
+pub fn read_file(rt: &impl Files, path: &str, buffer: &mut [u8]) -> File
     ensures { Fits result buffer.new }
 {
-    let fd = os::open_read(path);
-    if fd < 0 {
+    let Ok(mut open) = fs::open(rt, path) else {
         return File::Unreadable;
-    }
-    let file = fill(fd, buffer);
-    libc::close(fd);
-    file
+    };
+    fill(&mut open, buffer)
 }

@@ -7,6 +7,7 @@ mod show;
 use files::{File, read_file};
 use meaning::Question;
 use show::{print_refusal, show};
+use std::io;
 
 // The program's own limit.
 #[derive(Drop)]
@@ -20,21 +21,24 @@ impl DayFile {
 // The program's own refusal: a file can't be read, or `day.idx` is too long.
 const UNREADABLE: u32 = 11;
 
-fn main() {
+// Only what can't be printed on standard output makes it fail.
+fn main(rt: HostRuntime) -> io::Result<()> {
     // One byte more than is lawful, so that what is too long is seen to be. Of a question that is too long the rest is of no account.
     let mut index = [0u8; DayFile::MOST_BYTES + 1];
     let mut text = [0u8; Question::MOST_BYTES + 1];
-    let File::Holds(index_length) = read_file(b"day.idx", &mut index) else {
-        print_refusal(UNREADABLE);
-        return;
+    let File::Holds(index_length) = read_file(&rt, "day.idx", &mut index) else {
+        return print_refusal(&rt, UNREADABLE);
     };
-    let File::Holds(text_length) = read_file(b"query.txt", &mut text) else {
-        print_refusal(UNREADABLE);
-        return;
+    let File::Holds(text_length) = read_file(&rt, "query.txt", &mut text) else {
+        return print_refusal(&rt, UNREADABLE);
     };
     if DayFile::MOST_BYTES < index_length {
-        print_refusal(UNREADABLE);
-        return;
+        return print_refusal(&rt, UNREADABLE);
     }
-    show(&index[..index_length], &text[..text_length]);
+    show(
+        &rt,
+        &rt.stderr(),
+        &index[..index_length],
+        &text[..text_length],
+    )
 }

@@ -3,6 +3,7 @@
 // stands why. All rows of the table, with every number of every buffer, are compared with the evaluators in rust/compare/tests/table.rs.
 #![tactic(auto)]
 
+use std::io;
 
 // A number, to be printed.
 fn wide(x: u32) -> u64 {
@@ -10,15 +11,16 @@ fn wide(x: u32) -> u64 {
 }
 
 // Writes the first n of the numbers, each after a blank.
-fn numbers(out: &[u32], n: usize) {
+fn numbers(rt: &impl Print, out: &[u32], n: usize) -> io::Result<()> {
     let mut i = 0;
     while i < n {
         if i < out.len() {
-            io::write_all(1, b" ");
-            io::print_decimal(1, wide(out[i]));
+            rt.write_all(b" ")?;
+            rt.print(wide(out[i]))?;
         }
         i += 1;
     }
+    Ok(())
 }
 
 // The product of two small numbers.
@@ -34,38 +36,37 @@ fn product(a: usize, b: usize) -> usize {
 
 // Writes a question with its positions, its evidence rows one after the other, whether more remain, the next place, and the step whose name is
 // unknown.
-fn ask(index: &[u8], text: &[u8], steps: usize, place: u32) {
-    io::write_all(1, text);
-    io::write_all(1, b":");
+fn ask(rt: &impl Print, index: &[u8], text: &[u8], steps: usize, place: u32) -> io::Result<()> {
+    rt.write_all(text)?;
+    rt.write_all(b":")?;
     let mut out = [0u32; 24];
     let page = answer::answer(index, text, place, &mut out);
     if page.refusal != 0 {
-        io::write_all(1, b" refused ");
-        io::print_decimal(1, page.refusal as u64);
-        io::write_all(1, b"\n");
-        return;
+        rt.write_all(b" refused ")?;
+        rt.print(page.refusal as u64)?;
+        return rt.write_all(b"\n");
     }
-    numbers(&out, page.rows);
-    io::write_all(1, b" evidence");
+    numbers(rt, &out, page.rows)?;
+    rt.write_all(b" evidence")?;
     let shown = answer::evidence(index, text, place, &mut out);
-    numbers(&out, product(shown.rows, steps));
+    numbers(rt, &out, product(shown.rows, steps))?;
     if page.more {
-        io::write_all(1, b" more");
+        rt.write_all(b" more")?;
     }
-    io::write_all(1, b" next ");
-    io::print_decimal(1, page.next as u64);
+    rt.write_all(b" next ")?;
+    rt.print(page.next as u64)?;
     if page.unknown != meaning::Page::NO_STEP {
-        io::write_all(1, b" unknown ");
-        io::print_decimal(1, page.unknown as u64);
+        rt.write_all(b" unknown ")?;
+        rt.print(page.unknown as u64)?;
     }
-    io::write_all(1, b"\n");
+    rt.write_all(b"\n")
 }
 
 // Writes the number that the check gives.
-fn check(index: &[u8]) {
-    io::write_all(1, b"check ");
-    io::print_decimal(1, day::check(index) as u64);
-    io::write_all(1, b"\n");
+fn check(rt: &impl Print, index: &[u8]) -> io::Result<()> {
+    rt.write_all(b"check ")?;
+    rt.print(day::check(index) as u64)?;
+    rt.write_all(b"\n")
 }
 
 // The bytes of a name's list in a lawful index; of any other index none.
@@ -82,110 +83,111 @@ fn wide_byte(x: u8) -> u64 {
 }
 
 // Writes each byte after a blank, as a number.
-fn bytes(s: &[u8]) {
+fn bytes(rt: &impl Print, s: &[u8]) -> io::Result<()> {
     let mut i = 0;
     while i < s.len() {
-        io::write_all(1, b" ");
-        io::print_decimal(1, wide_byte(s[i]));
+        rt.write_all(b" ")?;
+        rt.print(wide_byte(s[i]))?;
         i += 1;
     }
+    Ok(())
 }
 
 // Writes a name with the bytes of its list.
-fn look_up(index: &[u8], name: &[u8]) {
-    io::write_all(1, name);
-    io::write_all(1, b" has");
-    bytes(labels_of(index, name));
-    io::write_all(1, b"\n");
+fn look_up(rt: &impl Print, index: &[u8], name: &[u8]) -> io::Result<()> {
+    rt.write_all(name)?;
+    rt.write_all(b" has")?;
+    bytes(rt, labels_of(index, name))?;
+    rt.write_all(b"\n")
 }
 
 // Writes the number that reading a question gives.
-fn read(text: &[u8]) {
-    io::write_all(1, b"read ");
-    io::print_decimal(1, question::read(text).refusal as u64);
-    io::write_all(1, b"\n");
+fn read(rt: &impl Print, text: &[u8]) -> io::Result<()> {
+    rt.write_all(b"read ")?;
+    rt.print(question::read(text).refusal as u64)?;
+    rt.write_all(b"\n")
 }
 
 // Writes the number that a call gives.
-fn refusal(index: &[u8], text: &[u8]) {
+fn refusal(rt: &impl Print, index: &[u8], text: &[u8]) -> io::Result<()> {
     let mut out = [0u32; 24];
-    io::write_all(1, b"refused ");
-    io::print_decimal(1, answer::answer(index, text, 0, &mut out).refusal as u64);
-    io::write_all(1, b"\n");
+    rt.write_all(b"refused ")?;
+    rt.print(answer::answer(index, text, 0, &mut out).refusal as u64)?;
+    rt.write_all(b"\n")
 }
 
 // The table's questions to the small day, and places at which no record is left.
-fn questions_to(day: &[u8]) {
-    ask(day, b"//call[//cancel]//board", 3, 0);
-    ask(day, b"//call[//board]", 2, 0);
-    ask(day, b"//call[//cancel]", 2, 0);
-    ask(day, b"//call//call//call", 3, 0);
-    ask(day, b"//call//cancel//board", 3, 0);
-    ask(day, b"//call[//cancel][//cancel]", 3, 0);
-    ask(day, b"//call[//call[//cancel]]//board", 4, 0);
-    ask(day, b"//lobby", 1, 0);
+fn questions_to(rt: &impl Print, day: &[u8]) -> io::Result<()> {
+    ask(rt, day, b"//call[//cancel]//board", 3, 0)?;
+    ask(rt, day, b"//call[//board]", 2, 0)?;
+    ask(rt, day, b"//call[//cancel]", 2, 0)?;
+    ask(rt, day, b"//call//call//call", 3, 0)?;
+    ask(rt, day, b"//call//cancel//board", 3, 0)?;
+    ask(rt, day, b"//call[//cancel][//cancel]", 3, 0)?;
+    ask(rt, day, b"//call[//call[//cancel]]//board", 4, 0)?;
+    ask(rt, day, b"//lobby", 1, 0)?;
     // a name in a bracket that no row has
-    ask(day, b"//call[//cancle]", 2, 0);
+    ask(rt, day, b"//call[//cancle]", 2, 0)?;
     // from place 9 on there is none, and the next place is the number of calls
-    ask(day, b"//call[//board]", 2, 9);
+    ask(rt, day, b"//call[//board]", 2, 9)?;
     // a place of 4,294,967,295
-    ask(day, b"//call", 1, 4294967295);
+    ask(rt, day, b"//call", 1, 4294967295)
 }
 
 // The labels of a name, byte by byte; of a name without a row, and of the beginning of one, none.
-fn names_of(day: &[u8]) {
-    look_up(day, b"board");
-    look_up(day, b"cancel");
-    look_up(day, b"can");
-    look_up(day, b"lobby");
+fn names_of(rt: &impl Print, day: &[u8]) -> io::Result<()> {
+    look_up(rt, day, b"board")?;
+    look_up(rt, day, b"cancel")?;
+    look_up(rt, day, b"can")?;
+    look_up(rt, day, b"lobby")
 }
 
 // Calls that are refused, and one of an index without a tag.
-fn refusals_of(day: &[u8]) {
+fn refusals_of(rt: &impl Print, day: &[u8]) -> io::Result<()> {
     // 1,025 bytes of anything
-    refusal(day, &[b'/'; meaning::Question::MOST_BYTES + 1]);
+    refusal(rt, day, &[b'/'; meaning::Question::MOST_BYTES + 1])?;
     // a broken index and a broken question: the index's number
-    refusal(b"\x00\x00\x02\x00", b"/call");
-    ask(b"\x00\x00\x01\x00", b"//call", 1, 0);
+    refusal(rt, b"\x00\x00\x02\x00", b"/call")?;
+    ask(rt, b"\x00\x00\x01\x00", b"//call", 1, 0)
 }
 
 // The small day of document 01: `board` 8:9, 22:23; `call` 1:20, 4:15, 7:12, 21:26, 27:28; `cancel` 2:3, 5:6.
-fn small_day() {
+fn small_day(rt: &impl Print) -> io::Result<()> {
     let day =
         b"\x03\x00\x01\x00board\x00\x00\x00\x00\x00\x00\x00\x00\x00\x00\x00L\x00\x00\x00\x02\x00\x00\x00call\x00\x00\x00\x00\x00\x00\x00\x00\x00\x00\x00\x00\x5c\x00\x00\x00\x05\x00\x00\x00cancel\x00\x00\x00\x00\x00\x00\x00\x00\x00\x00\x84\x00\x00\x00\x02\x00\x00\x00\x08\x00\x00\x00\x09\x00\x00\x00\x16\x00\x00\x00\x17\x00\x00\x00\x01\x00\x00\x00\x14\x00\x00\x00\x04\x00\x00\x00\x0f\x00\x00\x00\x07\x00\x00\x00\x0c\x00\x00\x00\x15\x00\x00\x00\x1a\x00\x00\x00\x1b\x00\x00\x00\x1c\x00\x00\x00\x02\x00\x00\x00\x03\x00\x00\x00\x05\x00\x00\x00\x06\x00\x00\x00";
-    questions_to(day);
-    names_of(day);
-    refusals_of(day);
+    questions_to(rt, day)?;
+    names_of(rt, day)?;
+    refusals_of(rt, day)
 }
 
 // Source 000: `figure` 139:146, 295:302, 319:326; `hidden` 138:147, 209:221, 282:303; `section` 5:60, 61:194, 106:156, 157:173, 281:304.
 // 139:146 lies in sections 61:194 and 106:156, of which 61:194 is the earlier; 295:302 lies in 281:304. Sections with a hidden part are
 // 61:194, 106:156 and 281:304. No section lies inside a hidden part: 281:304, which the paper names, lies around 282:303.
-fn article() {
+fn article(rt: &impl Print) -> io::Result<()> {
     let day =
         b"\x03\x00\x01\x00figure\x00\x00\x00\x00\x00\x00\x00\x00\x00\x00L\x00\x00\x00\x03\x00\x00\x00hidden\x00\x00\x00\x00\x00\x00\x00\x00\x00\x00d\x00\x00\x00\x03\x00\x00\x00section\x00\x00\x00\x00\x00\x00\x00\x00\x00|\x00\x00\x00\x05\x00\x00\x00\x8b\x00\x00\x00\x92\x00\x00\x00'\x01\x00\x00.\x01\x00\x00?\x01\x00\x00F\x01\x00\x00\x8a\x00\x00\x00\x93\x00\x00\x00\xd1\x00\x00\x00\xdd\x00\x00\x00\x1a\x01\x00\x00/\x01\x00\x00\x05\x00\x00\x00<\x00\x00\x00=\x00\x00\x00\xc2\x00\x00\x00j\x00\x00\x00\x9c\x00\x00\x00\x9d\x00\x00\x00\xad\x00\x00\x00\x19\x01\x00\x000\x01\x00\x00";
-    ask(day, b"//section//figure", 2, 0);
-    ask(day, b"//section[//hidden]", 2, 0);
-    ask(day, b"//hidden[//section]//figure", 3, 0);
+    ask(rt, day, b"//section//figure", 2, 0)?;
+    ask(rt, day, b"//section[//hidden]", 2, 0)?;
+    ask(rt, day, b"//hidden[//section]//figure", 3, 0)
 }
 
 // The same with 283:294 for 281:304: now a section lies inside 282:303, and no section lies around it. 295:302 lies in no section, and the
 // sections with a hidden part are 61:194 and 106:156.
-fn other_article() {
+fn other_article(rt: &impl Print) -> io::Result<()> {
     let day =
         b"\x03\x00\x01\x00figure\x00\x00\x00\x00\x00\x00\x00\x00\x00\x00L\x00\x00\x00\x03\x00\x00\x00hidden\x00\x00\x00\x00\x00\x00\x00\x00\x00\x00d\x00\x00\x00\x03\x00\x00\x00section\x00\x00\x00\x00\x00\x00\x00\x00\x00|\x00\x00\x00\x05\x00\x00\x00\x8b\x00\x00\x00\x92\x00\x00\x00'\x01\x00\x00.\x01\x00\x00?\x01\x00\x00F\x01\x00\x00\x8a\x00\x00\x00\x93\x00\x00\x00\xd1\x00\x00\x00\xdd\x00\x00\x00\x1a\x01\x00\x00/\x01\x00\x00\x05\x00\x00\x00<\x00\x00\x00=\x00\x00\x00\xc2\x00\x00\x00j\x00\x00\x00\x9c\x00\x00\x00\x9d\x00\x00\x00\xad\x00\x00\x00\x1b\x01\x00\x00&\x01\x00\x00";
-    ask(day, b"//section//figure", 2, 0);
-    ask(day, b"//section[//hidden]", 2, 0);
-    ask(day, b"//hidden[//section]//figure", 3, 0);
+    ask(rt, day, b"//section//figure", 2, 0)?;
+    ask(rt, day, b"//section[//hidden]", 2, 0)?;
+    ask(rt, day, b"//hidden[//section]//figure", 3, 0)
 }
 
 // Source 003's library, its tags numbered from 1: `library` 1:38; `book` 2:13, 14:37; `title` 3:4, 15:16; `author` 5:10, 17:22, 23:28,
 // 29:34. Each title lies in its book, and the first author of the second book is 17:22.
-fn library() {
+fn library(rt: &impl Print) -> io::Result<()> {
     let day =
         b"\x04\x00\x01\x00author\x00\x00\x00\x00\x00\x00\x00\x00\x00\x00d\x00\x00\x00\x04\x00\x00\x00book\x00\x00\x00\x00\x00\x00\x00\x00\x00\x00\x00\x00\x84\x00\x00\x00\x02\x00\x00\x00library\x00\x00\x00\x00\x00\x00\x00\x00\x00\x94\x00\x00\x00\x01\x00\x00\x00title\x00\x00\x00\x00\x00\x00\x00\x00\x00\x00\x00\x9c\x00\x00\x00\x02\x00\x00\x00\x05\x00\x00\x00\x0a\x00\x00\x00\x11\x00\x00\x00\x16\x00\x00\x00\x17\x00\x00\x00\x1c\x00\x00\x00\x1d\x00\x00\x00\x22\x00\x00\x00\x02\x00\x00\x00\x0d\x00\x00\x00\x0e\x00\x00\x00%\x00\x00\x00\x01\x00\x00\x00&\x00\x00\x00\x03\x00\x00\x00\x04\x00\x00\x00\x0f\x00\x00\x00\x10\x00\x00\x00";
-    ask(day, b"//book[//author]//title", 3, 0);
-    ask(day, b"//library//author", 2, 0);
+    ask(rt, day, b"//book[//author]//title", 3, 0)?;
+    ask(rt, day, b"//library//author", 2, 0)
 }
 
 // The first n bytes, if there are so many.
@@ -197,14 +199,14 @@ fn beginning(s: &[u8], n: usize) -> &[u8] {
 }
 
 // Indexes that are refused, and that are not.
-fn indexes() {
-    check(b"\x00\x00\x02\x00");
-    check(b"\x01\x00\x01\x00");
-    check(b"\x00\x00\x01");
+fn indexes(rt: &impl Print) -> io::Result<()> {
+    check(rt, b"\x00\x00\x02\x00")?;
+    check(rt, b"\x01\x00\x01\x00")?;
+    check(rt, b"\x00\x00\x01")?;
     let most = nested(64);
-    check(beginning(&most, 540));
+    check(rt, beginning(&most, 540))?;
     let over = nested(65);
-    check(&over);
+    check(rt, &over)
 }
 
 // An index with the one list `call`, of 65 labels of which each but the first lies inside the one before, and in its row the number given; the
@@ -229,47 +231,50 @@ fn nested(many: u8) -> [u8; 548] {
 }
 
 // Questions that do not follow the notation, and that do.
-fn questions() {
-    read(b"");
-    read(b"/call");
-    read(b"//call[]");
-    read(b"//call]");
-    read(b"//1a");
+fn questions(rt: &impl Print) -> io::Result<()> {
+    read(rt, b"")?;
+    read(rt, b"/call")?;
+    read(rt, b"//call[]")?;
+    read(rt, b"//call]")?;
+    read(rt, b"//1a")?;
     // names of 16 and of 17 characters
-    read(b"//abcdefghijklmnop");
-    read(b"//abcdefghijklmnopq");
+    read(rt, b"//abcdefghijklmnop")?;
+    read(rt, b"//abcdefghijklmnopq")?;
     // 32 steps, and 33
     read(
+        rt,
         b"//a//a//a//a//a//a//a//a//a//a//a//a//a//a//a//a//a//a//a//a//a//a//a//a//a//a//a//a//a//a//a//a",
-    );
+    )?;
     read(
+        rt,
         b"//a//a//a//a//a//a//a//a//a//a//a//a//a//a//a//a//a//a//a//a//a//a//a//a//a//a//a//a//a//a//a//a//a",
-    );
+    )?;
     // 33 steps and then a break
     read(
+        rt,
         b"//a//a//a//a//a//a//a//a//a//a//a//a//a//a//a//a//a//a//a//a//a//a//a//a//a//a//a//a//a//a//a//a//a[",
-    );
+    )?;
     // 8 deep, and 9
-    read(b"//a[//a[//a[//a[//a[//a[//a[//a[//a]]]]]]]]");
-    read(b"//a[//a[//a[//a[//a[//a[//a[//a[//a[//a]]]]]]]]]");
+    read(rt, b"//a[//a[//a[//a[//a[//a[//a[//a[//a]]]]]]]]")?;
+    read(rt, b"//a[//a[//a[//a[//a[//a[//a[//a[//a[//a]]]]]]]]]")?;
     // 1,024 bytes, and 1,025
-    read(&[b'/'; meaning::Question::MOST_BYTES]);
-    read(&[b'/'; meaning::Question::MOST_BYTES + 1]);
+    read(rt, &[b'/'; meaning::Question::MOST_BYTES])?;
+    read(rt, &[b'/'; meaning::Question::MOST_BYTES + 1])?;
     // bytes over 127, zero bytes, a line feed, and something after a bracket
-    read(b"//\xe9");
-    read(b"//a\xff");
-    read(b"\x00");
-    read(b"//a\x00");
-    read(b"//call\n");
-    read(b"//a[//b]c");
-    read(b"//_-.9[//B]//c");
+    read(rt, b"//\xe9")?;
+    read(rt, b"//a\xff")?;
+    read(rt, b"\x00")?;
+    read(rt, b"//a\x00")?;
+    read(rt, b"//call\n")?;
+    read(rt, b"//a[//b]c")?;
+    read(rt, b"//_-.9[//B]//c")
 }
 
-fn main() {
-    small_day();
-    article();
-    other_article();
-    library();
-    indexes();
-    questions();
+fn main(rt: HostRuntime) -> io::Result<()> {
+    small_day(&rt)?;
+    article(&rt)?;
+    other_article(&rt)?;
+    library(&rt)?;
+    indexes(&rt)?;
+    questions(&rt)
 }

@@ -18,6 +18,8 @@ DECLARES = re.compile(r"^\s*(?:(?:pub|abbrev|unfoldable|opaque)\s+)*(" + IDENT +
 TOKEN = re.compile(r"(?<![\w'₀-₉-])" + IDENT)
 # Two names that would fall together, and a name that says more than the rule would make of it.
 SINGLE = {"records-of": "records_found", "inside-each": "inside_each_decides", "inside-all": "inside_all_decides", "figures-≡": "figures_same"}
+# Words that no line declares in the form that is looked for: a lemma with its type on the next line, and parameters of sections and records.
+ALSO = {"some-decides", "numbersOf", "of-l", "pick-p", "pick-q", "fit-a", "fit-b", "u-is", "sees-b", "sees-d", "is-calls", "is-boards", "is-cancels"}
 SINGLE_ONLY_IN = {"inside-all": "Decide/Waits.antt"}
 
 
@@ -62,7 +64,7 @@ def own_names():
             name = m.group(1)
             if "-" in name or re.match(r"[a-z].*[A-Z]", name):
                 found.add(name)
-    return found - kit_names()
+    return (found | ALSO) - kit_names()
 
 
 def respell(text, names, path):

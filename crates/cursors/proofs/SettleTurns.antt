@@ -77,7 +77,7 @@ module _ (b : List ℕ) (k ret : ℕ) (hangs offsets counts : List ℕ) (plan : 
       }
 
       -- The step hangs from step u.
-      module _ (u : ℕ) (u-is : u ≡ at hangs s) (some : at hangs s ≡ 255 → ⊥) where
+      module _ (u : ℕ) (u_is : u ≡ at hangs s) (some : at hangs s ≡ 255 → ⊥) where
         hook : hook_of (at hangs s) ≡ from u
         hook = subst (λ (n : ℕ). hook_of (at hangs s) ≡ from n) (omega arith) (hook_from (at hangs s) some)
 

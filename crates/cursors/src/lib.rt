@@ -13,7 +13,7 @@ ghost use Rattle.cursors.specs.Looking.{Looks};
 use meaning::Step;
 
 // Where a record starts, seen from a record that it is to lie in.
-#[derive(Drop)]
+#[derive(Clone, Copy)]
 pub enum Sight {
     // At or before that record's start; the position of the first record of its list that starts later.
     Early(usize),

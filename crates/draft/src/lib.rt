@@ -12,7 +12,7 @@ use meaning::{Name, Step};
 use name::name_run;
 
 // How far the reading has come. Its fields are narrow, since each open bracket keeps one of these on the stack.
-#[derive(Drop)]
+#[derive(Clone, Copy)]
 pub struct Draft {
     // The steps in text order, of which the first 32 are kept.
     pub steps: [Step; Step::MOST],

@@ -11,7 +11,7 @@ ghost use Rattle.lines.specs.Adding.{most_digits, most_record, Adds, Places, Add
 use meaning::{Label, Step};
 
 // A line's text.
-#[derive(Drop)]
+#[derive(Clone, Copy)]
 pub struct Line {}
 
 impl Line {

@@ -146,10 +146,10 @@ unfoldable pub some : ℕ → (ℕ → Bool) → Bool
 some zero f = false
 some (suc n) f = elim (f n) [ true ↦ true | false ↦ some n f ]
 
-pub some-decides : {P : ℕ → Type 0} {f : ℕ → Bool} (n : ℕ) → ((i : ℕ) → i < n → Decides (P i) (f i)) → Decides ((i : ℕ) × (i < n) × P i) (some n f)
+pub some_decides : {P : ℕ → Type 0} {f : ℕ → Bool} (n : ℕ) → ((i : ℕ) → i < n → Decides (P i) (f i)) → Decides ((i : ℕ) × (i < n) × P i) (some n f)
 unfolding some
-some-decides zero d = fails (λ h. omega (arith, h.1))
-some-decides {P} {f} (suc n) d = go (d n (omega arith)) (some-decides n (λ i l. d i (omega arith)))
+some_decides zero d = fails (λ h. omega (arith, h.1))
+some_decides {P} {f} (suc n) d = go (d n (omega arith)) (some_decides n (λ i l. d i (omega arith)))
   where
     go : {a b : Bool} → Decides (P n) a → Decides ((i : ℕ) × (i < n) × P i) b → Decides ((i : ℕ) × (i < suc n) × P i) (elim a [ true ↦ true | false ↦ b ])
     go (holds p) (holds q) = holds (n, omega arith, p)

@@ -106,7 +106,7 @@ pub enum Found {
 }
 
 // A day index.
-#[derive(Drop)]
+#[derive(Clone, Copy)]
 pub struct Index {}
 
 impl Index {
@@ -138,7 +138,7 @@ impl Index {
 }
 
 // A name of a tag.
-#[derive(Drop)]
+#[derive(Clone, Copy)]
 pub struct Name {}
 
 impl Name {

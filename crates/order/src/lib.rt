@@ -18,7 +18,7 @@ use meaning::{Index, Label};
 pub use tournament::NODES;
 
 // What comes next.
-#[derive(Drop)]
+#[derive(Clone, Copy)]
 pub enum Coming {
     // The label of least start of those that are left, of equal ones that of the lowest list: with its list and its position there.
     Label {

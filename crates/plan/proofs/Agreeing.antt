@@ -44,20 +44,20 @@ module _ (a b : Asked) (fit : Fit a) (g : Agree a b) where
   pub returned_agree : (i : ℕ) → Returned a i → Returned b i
   returned_agree i (p, pick, e) = (p, pick_agree p pick, ap p (sym g.returned) ∙ e)
 
-module _ (a b : Asked) (fit-a : Fit a) (fit-b : Fit b) (g : Agree a b) where
+module _ (a b : Asked) (fit_a : Fit a) (fit_b : Fit b) (g : Agree a b) where
   pub records_agree : (place : ℕ) (all : List ℕ) → Records a place all → Records b place all
   records_agree place all r = record {
     ascending = r.ascending;
-    each = λ i h. (returned_agree a b fit-a g i (r.each i h).0, (r.each i h).1);
-    every = λ i x l. r.every i (returned_agree b a fit-b (agree_back g) i x) l;
+    each = λ i h. (returned_agree a b fit_a g i (r.each i h).0, (r.each i h).1);
+    every = λ i x l. r.every i (returned_agree b a fit_b (agree_back g) i x) l;
   }
 
   pub evidence_agree : (i : ℕ) (w : List ℕ) → Evidence a i w → Evidence b i w
   evidence_agree i w x = record {
     long = x.long ∙ g.steps;
-    pick = pick_agree a b fit-a g (at w) x.pick;
+    pick = pick_agree a b fit_a g (at w) x.pick;
     here = ap (at w) (sym g.returned) ∙ x.here;
-    earliest = λ q pick e s l. x.earliest q (pick_agree b a fit-b (agree_back g) q pick) (ap q g.returned ∙ e) s (omega (arith, g.steps));
+    earliest = λ q pick e s l. x.earliest q (pick_agree b a fit_b (agree_back g) q pick) (ap q g.returned ∙ e) s (omega (arith, g.steps));
   }
 
   -- Rows of one kind are rows of another, where each row is.
@@ -77,5 +77,5 @@ module _ (a b : Asked) (fit-a : Fit a) (fit-b : Fit b) (g : Agree a b) where
     refusal = p.refusal;
     rows = p.rows ∙ ap (λ (n : ℕ). min n (length p.all)) e;
     more = p.more;
-    next = p.next ∙ ap (λ (d : ℕ). get_or p.all r.rows d) (g.count a.returned fit-a.returned_lt ∙ ap b.count g.returned);
+    next = p.next ∙ ap (λ (d : ℕ). get_or p.all r.rows d) (g.count a.returned fit_a.returned_lt ∙ ap b.count g.returned);
   }

@@ -10,7 +10,7 @@ use meaning::{Found, Page, Question, Step};
 
 // For each step what it hangs from, where its list's body begins, and its number of labels; a step whose name no row has, has none. It is
 // made once a call, and lent to the engine.
-#[derive(Drop)]
+#[derive(Clone, Copy)]
 pub struct Plan {
     pub hangs: [usize; Step::MOST],
     pub offsets: [usize; Step::MOST],

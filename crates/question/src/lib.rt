@@ -9,7 +9,7 @@ use meaning::{Question, Step};
 use path::read_path;
 
 // What reading gives: the refusal number, or 0 and the question.
-#[derive(Drop)]
+#[derive(Clone, Copy)]
 pub struct Reading {
     pub refusal: u32,
     pub question: Question,

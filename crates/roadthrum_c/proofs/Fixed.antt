@@ -9,8 +9,8 @@ use Rattle.meaning.proofs.Laws.Tabled.{tabled_fixed}
 use Rattle.roadthrum_c.specs.Boundary.{numbers, figure_numbers, PassedOn}
 
 -- Outcomes that are equal are passed on by equal numbers.
-numbers_fixed : {A : Type 0} {numbersOf : A → List ℕ} {P Q : A → Type 0} {v w : List ℕ} (p : PassedOn numbersOf P v) (q : PassedOn numbersOf Q w) → p.outcome ≡ q.outcome → v ≡ w
-numbers_fixed {numbersOf = numbersOf} p q e = p.numbered ∙ ap numbersOf e ∙ sym q.numbered
+numbers_fixed : {A : Type 0} {numbers_of : A → List ℕ} {P Q : A → Type 0} {v w : List ℕ} (p : PassedOn numbers_of P v) (q : PassedOn numbers_of Q w) → p.outcome ≡ q.outcome → v ≡ w
+numbers_fixed {numbers_of = numbers_of} p q e = p.numbered ∙ ap numbers_of e ∙ sym q.numbered
 
 -- Where a promise fixes the page and the buffer, what is passed on is fixed.
 passed_fixed : {Promise : List ℕ → Page → Type 0} {exit exit' v w : List ℕ}

@@ -12,7 +12,7 @@ abbrev pub figure_numbers : Figures → List ℕ
 figure_numbers f = f.refusal ∷ f.calls ∷ f.boarded ∷ f.cancelled ∷ f.left_open ∷ f.total ∷ f.longest ∷ f.over ∷ []
 
 -- The numbers are those of an outcome that a promise allows.
-pub record PassedOn {A : Type 0} (numbersOf : A → List ℕ) (Promise : A → Type 0) (result : List ℕ) : Type 0 where
+pub record PassedOn {A : Type 0} (numbers_of : A → List ℕ) (Promise : A → Type 0) (result : List ℕ) : Type 0 where
   pub outcome : A
   pub promised : Promise outcome
-  pub numbered : result ≡ numbersOf outcome
+  pub numbered : result ≡ numbers_of outcome

@@ -46,7 +46,7 @@ pub extern "C" fn roadthrum_check(index: &[u8]) -> u32
     day::check(index)
 }
 
-// The answer call; its page's numbers are written to `result`.
+// The answer call; its page's numbers are written to `res`.
 #[unsafe(no_mangle)]
 pub extern "C" fn roadthrum_answer(
     index: &[u8],
@@ -60,7 +60,7 @@ pub extern "C" fn roadthrum_answer(
     *res = numbers(answer::answer(index, question, place, rows));
 }
 
-// The evidence call; its page's numbers are written to `result`.
+// The evidence call; its page's numbers are written to `res`.
 #[unsafe(no_mangle)]
 pub extern "C" fn roadthrum_evidence(
     index: &[u8],

@@ -52,7 +52,7 @@ fn row_right(index: &[u8], r: usize, place: usize) -> bool
 }
 
 // What looking at all rows finds: whether they are right, and how many labels they have together.
-#[derive(Drop)]
+#[derive(Clone, Copy)]
 struct Rows {
     ok: bool,
     labels: usize,

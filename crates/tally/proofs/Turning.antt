@@ -72,10 +72,10 @@ module _ (calls boards cancels times : List ℕ) (sound : Sound (traffic_of call
     pub turning_small : Small f
     turning_small = figured_small t.figured (omega (arith, sound.few)) t.total
 
-    module _ (c : Label) (is : c ≡ w.calls.label i) (b d : Sight) (sees-b : Sees boards c b) (sees-d : Sees cancels c d) (r : Outcome) (decided : Decided b.start d.start r) where
+    module _ (c : Label) (is : c ≡ w.calls.label i) (b d : Sight) (sees_b : Sees boards c b) (sees_d : Sees cancels c d) (r : Outcome) (decided : Decided b.start d.start r) where
       -- What becomes of the call.
       became : Becomes w i r
-      became = becomes w i sound b.start d.start (subst (λ (x : Label). FirstStart (in_body boards) x b.start) is sees-b.first) (subst (λ (x : Label). FirstStart (in_body cancels) x d.start) is sees-d.first) r decided
+      became = becomes w i sound b.start d.start (subst (λ (x : Label). FirstStart (in_body boards) x b.start) is sees_b.first) (subst (λ (x : Label). FirstStart (in_body cancels) x d.start) is sees_d.first) r decided
 
       pub turning_timed : Timed times c.start r
       turning_timed = subst (λ (x : Label). Timed times x.start r) (sym is) (becomes_timed calls boards cancels times sound i r became)
@@ -86,6 +86,6 @@ module _ (calls boards cancels times : List ℕ) (sound : Sound (traffic_of call
         within = omega arith;
         figured = subst (Figured w k) (sym (e ∙ ap (λ (x : Label). added (at times) x.start f r) is)) (figured_added calls boards cancels times sound i t.figured r became k more);
         total = omega (arith, t.total);
-        boards_passed = passed_on boards i b.place c is sees-b.place k more;
-        cancels_passed = passed_on cancels i d.place c is sees-d.place k more;
+        boards_passed = passed_on boards i b.place c is sees_b.place k more;
+        cancels_passed = passed_on cancels i d.place c is sees_d.place k more;
       }

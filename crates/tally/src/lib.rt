@@ -13,7 +13,7 @@ ghost use Rattle.tally.specs.Adding.{Small, WaitTimed, Timed, waited_for, added}
 use meaning::{Figures, Label};
 
 // What a look from a call finds among the records of a body.
-#[derive(Drop)]
+#[derive(Clone, Copy)]
 pub struct Sight {
     // The place of the first that starts after the call does.
     pub place: usize,
@@ -22,7 +22,7 @@ pub struct Sight {
 }
 
 // What becomes of a call, with the number at which its wait ends.
-#[derive(Drop)]
+#[derive(Clone, Copy)]
 pub enum Outcome {
     Boarded(u32),
     Cancelled(u32),

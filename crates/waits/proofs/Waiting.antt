@@ -26,13 +26,13 @@ module _ (b times : List ℕ) where
     refuse_times {n} (given g) some e = untold (given_after (check_table b) (times_table b times) n law g) e
 
     -- Nothing is refused, and the three bodies are those of the day's calls, boardings and cancellations.
-    module _ (c : Clear (times_table b times)) {calls boards cancels : List ℕ} (is-calls : calls ≡ body_of b call_name) (is-boards : boards ≡ body_of b board_name) (is-cancels : cancels ≡ body_of b cancel_name) where
+    module _ (c : Clear (times_table b times)) {calls boards cancels : List ℕ} (is_calls : calls ≡ body_of b call_name) (is_boards : boards ≡ body_of b board_name) (is_cancels : cancels ≡ body_of b cancel_name) where
       all_clear : Clear (waits_table b times)
       all_clear = clear_both (check_table b) (times_table b times) law c
 
       -- The traffic of the bodies is the day's.
       pub bodies_sound : Sound (traffic_of calls boards cancels times) (length times)
-      bodies_sound = subst₃ (λ (x y z : List ℕ). Sound (traffic_of x y z times) (length times)) (sym is-calls) (sym is-boards) (sym is-cancels) (clear_sound b times all_clear)
+      bodies_sound = subst₃ (λ (x y z : List ℕ). Sound (traffic_of x y z times) (length times)) (sym is_calls) (sym is_boards) (sym is_cancels) (clear_sound b times all_clear)
 
       pub give_table : {f : Figures} → Figured (traffic_of calls boards cancels times) (length calls / 8) f → Tabled b times f
-      give_table {f} x = told all_clear (subst₃ (λ (x y z : List ℕ). Figured (traffic_of x y z times) (length x / 8) f) is-calls is-boards is-cancels x)
+      give_table {f} x = told all_clear (subst₃ (λ (x y z : List ℕ). Figured (traffic_of x y z times) (length x / 8) f) is_calls is_boards is_cancels x)

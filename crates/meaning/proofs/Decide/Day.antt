@@ -13,7 +13,7 @@ use Rattle.meaning.specs.Names.{initial, further, all_further, short, is_name, s
 use Rattle.meaning.specs.Day.{tags, version, row_at, name_field, offset, labels, total, body_at, lists_of, RowRight, TooShort, OtherVersion, WrongContents, WrongLength, WrongLists, WrongNesting}
 use Rattle.meaning.specs.Refusals.{clear}
 use Rattle.meaning.specs.Promises.{Checked}
-use Rattle.meaning.proofs.Decide.{decides_as, not_decides, lt_decides, eq_decides, each, some, some-decides, both_decides, either_decides}
+use Rattle.meaning.proofs.Decide.{decides_as, not_decides, lt_decides, eq_decides, each, some, some_decides, both_decides, either_decides}
 use Rattle.meaning.proofs.Decide.Among.{among, keep}
 use Rattle.meaning.proofs.Laws.Table.{row_verdict}
 use Rattle.meaning.proofs.Decide.Names.{fills_b, field_b, field_decides, sooner_at, sooner_b, sooner_decides}
@@ -78,7 +78,7 @@ unfolding contents_b
 contents_decides b =
     either_decides (lt_decides most_tags (tags b))
     (either_decides (lt_decides (length b) (row_at (tags b)))
-    (either_decides (some-decides (tags b) (λ r l. not_decides (row_decides b r))) (lt_decides most_labels (total b))))
+    (either_decides (some_decides (tags b) (λ r l. not_decides (row_decides b r))) (lt_decides most_labels (total b))))
 
 -- Refusal 4.
 unfoldable pub length_b : List ℕ → Bool

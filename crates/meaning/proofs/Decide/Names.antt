@@ -11,7 +11,7 @@ use lib.Seq.{take-append_seam}
 use Rattle.meaning.specs.Answers.{Decides}
 use Rattle.meaning.specs.Limits.{most_name}
 use Rattle.meaning.specs.Names.{is_name, Name, filled, Sooner, same}
-use Rattle.meaning.proofs.Decide.{true_decides, decides_as, or_not, lt_decides, eq_decides, each, each_decides, some, some-decides, both_decides}
+use Rattle.meaning.proofs.Decide.{true_decides, decides_as, or_not, lt_decides, eq_decides, each, each_decides, some, some_decides, both_decides}
 use Rattle.meaning.proofs.Laws.Name.{name_short}
 use Rattle.meaning.proofs.Laws.Same.{same_decides}
 
@@ -41,7 +41,7 @@ name_take f n e = ap (take (length n)) e ∙ take-append_seam n (replicate (most
 -- That test decides whether a name stands in the field: the name is the field's beginning of its own length.
 pub field_decides : (f : List ℕ) → Decides (NameIn f) (field_b f)
 unfolding field_b
-field_decides f = decides_as to from (some-decides (suc most_name) (λ n l. fills_decides f (take n f)))
+field_decides f = decides_as to from (some_decides (suc most_name) (λ n l. fills_decides f (take n f)))
   where
     to : (n : ℕ) × (n < suc most_name) × (Name (take n f) × (f ≡ filled (take n f))) → NameIn f
     to h = record { name = take h.0 f; is_name = h.2.0; here = h.2.1 }
@@ -64,7 +64,7 @@ less_within x y k l = ⊎_elim (λ h. h) (λ n. absurd (omega (arith, get_or-eq_
 -- That test decides which field comes first.
 pub sooner_decides : (x y : List ℕ) → Decides (Sooner x y) (sooner_b x y)
 unfolding sooner_b sooner_at
-sooner_decides x y = decides_as to from (some-decides (length y) (λ k l. both_decides (lt_decides (get_or x k 0) (get_or y k 0)) (each_decides k (λ i m. eq_decides (get_or x i 0) (get_or y i 0)))))
+sooner_decides x y = decides_as to from (some_decides (length y) (λ k l. both_decides (lt_decides (get_or x k 0) (get_or y k 0)) (each_decides k (λ i m. eq_decides (get_or x i 0) (get_or y i 0)))))
   where
     to : (k : ℕ) × (k < length y) × ((get_or x k 0 < get_or y k 0) × ((i : ℕ) → i < k → get_or x i 0 ≡ get_or y i 0)) → Sooner x y
     to h = record { place = h.0; same = h.2.1; less = h.2.0 }

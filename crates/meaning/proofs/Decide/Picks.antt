@@ -12,7 +12,7 @@ use Rattle.meaning.specs.declared.Label.{Label}
 use Rattle.meaning.specs.Notation.{Hook, nothing, from}
 use Rattle.meaning.specs.Bytes.{at}
 use Rattle.meaning.specs.Picks.{Asked, Edge, Hung, Pick, Returned, Evidence}
-use Rattle.meaning.proofs.Decide.{decides_as, or_not, le_decides, both_decides, lt_decides, eq_decides, and_decides, not_decides, each, each_decides, some, some-decides}
+use Rattle.meaning.proofs.Decide.{decides_as, or_not, le_decides, both_decides, lt_decides, eq_decides, and_decides, not_decides, each, each_decides, some, some_decides}
 use Rattle.meaning.proofs.Decide.Nesting.{inside_b, inside_decides}
 use Rattle.meaning.specs.Fit.{Fit}
 use Rattle.meaning.proofs.Laws.Pick.{same_pick}
@@ -48,7 +48,7 @@ choose_decides c zero {G} {f} d = decides_as (λ g. ([], record { long = refl; b
     empty : (w : List ℕ) → length w ≡ 0 → G w → G []
     empty [] e g = g
     empty (i ∷ w) e g = absurd (omega arith)
-choose_decides c (suc n) {G} {f} d = decides_as to back (some-decides (c 0) (λ i l. choose_decides (λ s. c (suc s)) n (λ w. d (i ∷ w))))
+choose_decides c (suc n) {G} {f} d = decides_as to back (some_decides (c 0) (λ i l. choose_decides (λ s. c (suc s)) n (λ w. d (i ∷ w))))
   where
     Rest : ℕ → Type 0
     Rest i = (w : List ℕ) × Within (λ s. c (suc s)) n w × G (i ∷ w)
@@ -152,7 +152,7 @@ module _ (a : Asked) where
     unfolding undercut_b Undercut
     undercut_decides i w =
         some_pick_decides (λ p q on e. (sym (on a.returned fit.returned_lt) ∙ e.0, (e.1.0, e.1.1, subst (λ (k : ℕ). k < at w e.1.0) (on e.1.0 e.1.1) e.1.2)))
-        (λ q. and_decides (eq_decides (at q a.returned) i) (some-decides a.steps (λ s l. lt_decides (at q s) (at w s))))
+        (λ q. and_decides (eq_decides (at q a.returned) i) (some_decides a.steps (λ s l. lt_decides (at q s) (at w s))))
 
     -- The row is the evidence for record i.
     pub evidence_decides : (i : ℕ) (w : List ℕ) → Decides (Evidence a i w) (evidence_b i w)

@@ -12,7 +12,7 @@ use Rattle.meaning.specs.Day.{tags, name_field, Finds}
 use Rattle.meaning.specs.Notation.{Path, steps}
 use Rattle.meaning.specs.Picks.{step_at}
 use Rattle.meaning.specs.Pages.{no_step, First, nowhere, FirstUnknown}
-use Rattle.meaning.proofs.Decide.{decides_as, eq_decides, not_decides, some, some-decides}
+use Rattle.meaning.proofs.Decide.{decides_as, eq_decides, not_decides, some, some_decides}
 use Rattle.meaning.proofs.Laws.Same.{same_decides}
 use Rattle.meaning.proofs.Laws.Found.{first_kept, first_new, first_on, first_one}
 
@@ -23,7 +23,7 @@ no_row_b b n = not (some (tags b) (λ r. same (name_field b r) (filled n)))
 no_row_decides : (b n : List ℕ) → Decides (Finds b n Unknown) (no_row_b b n)
 unfolding no_row_b
 no_row_decides b n =
-    decides_as (λ h r x. h (r, x.0, x.1)) (λ h x. h x.0 (x.1, x.2)) (not_decides (some-decides (tags b) (λ r l. same_decides (name_field b r) (filled n))))
+    decides_as (λ h r x. h (r, x.0, x.1)) (λ h x. h x.0 (x.1, x.2)) (not_decides (some_decides (tags b) (λ r l. same_decides (name_field b r) (filled n))))
 
 -- The first number below n that passes, or 32 if none does.
 unfoldable pub first_passing : ℕ → (ℕ → Bool) → ℕ
@@ -33,7 +33,7 @@ first_passing (suc n) f = elim (some n f) [ true ↦ first_passing n f | false �
 first_is : {Such : ℕ → Type 0} {f : ℕ → Bool} → ((j : ℕ) → Decides (Such j) (f j)) → (n : ℕ) → First Such n (first_passing n f)
 unfolding first_passing
 first_is d zero = nowhere (λ j l. absurd (omega arith))
-first_is {Such} {f} d (suc n) = go (some-decides n (λ j l. d j)) (d n) (first_is d n)
+first_is {Such} {f} d (suc n) = go (some_decides n (λ j l. d j)) (d n) (first_is d n)
   where
     go : {a b : Bool} {m : ℕ} → Decides ((j : ℕ) × (j < n) × Such j) a → Decides (Such n) b → First Such n m
         → First Such (suc n) (elim a [ true ↦ m | false ↦ elim b [ true ↦ n | false ↦ no_step ] ])

@@ -11,7 +11,7 @@ use Rattle.meaning.specs.Labels.{Inside}
 use Rattle.meaning.specs.Day.{tags, count, lists_of}
 use Rattle.meaning.specs.Waits.{Ending, board, cancel, Traffic, Within, Ends, Open, NoEntry, TimesDescend}
 use Rattle.meaning.specs.Refusals.{Verdict, clear, waits_table}
-use Rattle.meaning.proofs.Decide.{decides_as, le_decides, lt_decides, eq_decides, and_decides, either_decides, each, each_decides, some, some-decides}
+use Rattle.meaning.proofs.Decide.{decides_as, le_decides, lt_decides, eq_decides, and_decides, either_decides, each, each_decides, some, some_decides}
 use Rattle.meaning.proofs.Decide.Nesting.{inside_b, inside_decides}
 use Rattle.meaning.proofs.Decide.Day.{check_of, check_agrees}
 use Rattle.meaning.proofs.Laws.Table.{check_rising, row_verdict, verdict_after}
@@ -73,7 +73,7 @@ no_entry_decides : (b times : List ℕ) → Decides (NoEntry b times) (no_entry_
 unfolding no_entry_b
 no_entry_decides b times =
     decides_as (λ h. (record { list = h.0; at = h.2.0 }, record { list_lt = h.1; at_lt = h.2.1 }, h.2.2)) (λ h. (h.0.list, h.1.list_lt, (h.0.at, h.1.at_lt, h.2)))
-    (some-decides (tags b) (λ r l. some-decides (count b r) (λ j k. either_decides (le_decides (length times) ((lists_of b).label r j).start) (le_decides (length times) ((lists_of b).label r j).end))))
+    (some_decides (tags b) (λ r l. some_decides (count b r) (λ j k. either_decides (le_decides (length times) ((lists_of b).label r j).start) (le_decides (length times) ((lists_of b).label r j).end))))
 
 -- Refusal 21.
 unfoldable pub descend_b : List ℕ → Bool
@@ -83,7 +83,7 @@ descend_decides : (times : List ℕ) → Decides (TimesDescend times) (descend_b
 unfolding descend_b
 descend_decides times =
     decides_as (λ h. (h.0, omega (arith, h.2.0), omega (arith, h.2.1))) (λ h. (h.0, omega (arith, h.1), (omega (arith, h.1), omega (arith, h.2))))
-    (some-decides (length times) (λ k l. and_decides (lt_decides (suc k) (length times)) (lt_decides (at times (suc k)) (at times k))))
+    (some_decides (length times) (λ k l. and_decides (lt_decides (suc k) (length times)) (lt_decides (at times (suc k)) (at times k))))
 
 -- The number that the waits call gives.
 unfoldable pub waits_of : List ℕ → List ℕ → ℕ

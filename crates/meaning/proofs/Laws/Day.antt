@@ -75,12 +75,12 @@ module _ (b : List ℕ) where
       equal : (m n : ℕ) → (m ≡ n) ⊎ (m ≢ n)
       equal m n = or_not (eq_decides m n)
 
-  module _ (law : LawfulLists (lists_of b)) (l : Body) (of-l : OfRow b (tags b) l) where
+  module _ (law : LawfulLists (lists_of b)) (l : Body) (of_l : OfRow b (tags b) l) where
     pub list_ordered : (i : ℕ) → i < l.count → (at_list l i).start < (at_list l i).end
-    list_ordered i il = let p = placed l i of-l il in subst (λ (z : Label). z.start < z.end) p.2 (law.ordered p.0 p.1)
+    list_ordered i il = let p = placed l i of_l il in subst (λ (z : Label). z.start < z.end) p.2 (law.ordered p.0 p.1)
 
     pub list_ascending : (i j : ℕ) → i < j → j < l.count → (at_list l i).start < (at_list l j).start
-    list_ascending i j ij jl = go of-l
+    list_ascending i j ij jl = go of_l
       where
         go : OfRow b (tags b) l → (at_list l i).start < (at_list l j).start
         go (inl (r, r-lt, e)) =
@@ -89,7 +89,7 @@ module _ (b : List ℕ) where
 
     pub list_laminar : (m : Body) → OfRow b (tags b) m → (i j : ℕ) → i < l.count → j < m.count
         → (at_list l i ≡ at_list m j) ⊎ Inside (at_list l i) (at_list m j) ⊎ Inside (at_list m j) (at_list l i) ⊎ Apart (at_list l i) (at_list m j)
-    list_laminar m of-m i j il jm = go (placed l i of-l il) (placed m j of-m jm)
+    list_laminar m of-m i j il jm = go (placed l i of_l il) (placed m j of-m jm)
       where
         go : Placed l i → Placed m j → (at_list l i ≡ at_list m j) ⊎ Inside (at_list l i) (at_list m j) ⊎ Inside (at_list m j) (at_list l i) ⊎ Apart (at_list l i) (at_list m j)
         go (x, hx, ex) (y, hy, ey) =

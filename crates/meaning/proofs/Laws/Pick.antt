@@ -44,7 +44,7 @@ module _ (a : Asked) (fit : Fit a) where
       within_inside s i u j (omega arith) (omega arith) (omega (arith, earlier_starts u j j' jj jl, above.after))
       (omega (arith, earlier_starts s i i' ii il, fit.ordered s i' il, below.before))
 
-  module _ (p q : ℕ → ℕ) (pick-p : Pick a p) (pick-q : Pick a q) where
+  module _ (p q : ℕ → ℕ) (pick_p : Pick a p) (pick_q : Pick a q) where
     earlier_hung : (s : ℕ) → s < a.steps → (h : Hook) → ((u : ℕ) → h ≡ from u → u < s) → Hung a p s h → Hung a q s h → Hung a (earlier p q) s h
     earlier_hung s sl nothing up hp hq = tt
     earlier_hung s sl (from u) up hp hq = go (either_way (p s) (q s)) (either_way (p u) (q u))
@@ -57,15 +57,15 @@ module _ (a : Asked) (fit : Fit a) where
 
         go : (p s ≤ q s) ⊎ (q s ≤ p s) → (p u ≤ q u) ⊎ (q u ≤ p u) → Edge (a.label s (min (p s) (q s))) (a.label u (min (p u) (q u)))
         go (inl l) (inl k) = take (p s) (p u) (omega arith) (omega arith) hp
-        go (inl l) (inr k) = take (p s) (q u) (omega arith) (omega arith) (crossed s (p s) (q s) u (q u) (p u) l (pick-q.within s sl) k (pick-p.within u ul) hp hq)
-        go (inr l) (inl k) = take (q s) (p u) (omega arith) (omega arith) (crossed s (q s) (p s) u (p u) (q u) l (pick-p.within s sl) k (pick-q.within u ul) hq hp)
+        go (inl l) (inr k) = take (p s) (q u) (omega arith) (omega arith) (crossed s (p s) (q s) u (q u) (p u) l (pick_q.within s sl) k (pick_p.within u ul) hp hq)
+        go (inr l) (inl k) = take (q s) (p u) (omega arith) (omega arith) (crossed s (q s) (p s) u (p u) (q u) l (pick_p.within s sl) k (pick_q.within u ul) hq hp)
         go (inr l) (inr k) = take (q s) (q u) (omega arith) (omega arith) hq
 
     -- Taking the earlier record at every step of two picks gives a pick.
     pub earlier_pick : Pick a (earlier p q)
     earlier_pick = record {
-      within = λ s sl. omega (arith, pick-p.within s sl);
-      hung = λ s sl. earlier_hung s sl (a.hook s) (λ u e. fit.upward s u sl e) (pick-p.hung s sl) (pick-q.hung s sl);
+      within = λ s sl. omega (arith, pick_p.within s sl);
+      hung = λ s sl. earlier_hung s sl (a.hook s) (λ u e. fit.upward s u sl e) (pick_p.hung s sl) (pick_q.hung s sl);
     }
 
   -- Whether a function is a pick hangs on the question's steps alone.

@@ -6,7 +6,7 @@ use std::io::Read;
 use std::rt::Files;
 
 // What was read of a file: how many bytes it put at the beginning of the buffer, or that the file can't be read.
-#[derive(Drop)]
+#[derive(Clone, Copy)]
 pub enum File {
     Holds(usize),
     Unreadable,

@@ -10,7 +10,7 @@ use show::{print_refusal, show};
 use std::io;
 
 // The program's own limit.
-#[derive(Drop)]
+#[derive(Clone, Copy)]
 struct DayFile {}
 
 impl DayFile {

@@ -37,7 +37,6 @@ fn begins_at(index: &[u8], r: usize, place: usize) -> bool
 }
 
 // Whether row r is right, where its body has to begin at `place`.
-#[tactic(auto, using(crate::proofs::RowLaws::row_as, crate::proofs::RowLaws::row_named, meaning::specs::Answers::fails))]
 fn row_right(index: &[u8], r: usize, place: usize) -> bool
     requires { (row_at r + 24 ≤ length index.now) × (place ≡ body_at index.now r) }
     ensures { Decides (RowRight index.now r) result }

@@ -16,10 +16,10 @@ use Rattle.name.specs.Runs.{name_run}
 use Rattle.name.proofs.RunLaws.{run_within, run_name, run_after, run_of_name}
 use Rattle.draft.specs.declared.Draft.{Draft}
 use Rattle.draft.specs.Drafts.{grown}
-use Rattle.draft.specs.Steps.{Space, MayRead, FoundStep, LengthAt, long, none, StepRead, taken}
+use Rattle.draft.specs.Steps.{Space, MayRead, FoundStep, NoStep, LengthAt, long, none, StepRead, taken}
 
 -- The rest of a text from place k on, by its length, has the run that it has.
-whole_run : (t : List ℕ) (k : ℕ) → name_run (take (length t - k) (drop k t)) ≡ name_run (drop k t)
+pub whole_run : (t : List ℕ) (k : ℕ) → name_run (take (length t - k) (drop k t)) ≡ name_run (drop k t)
 whole_run t k = ap name_run (take_all (length t - k) (drop k t) (omega (arith, length-drop k t)))
 
 -- A name has a character.
@@ -78,11 +78,20 @@ module _ (t : List ℕ) (at : ℕ) where
       }
 
   -- Behind two slashes the run's length is the name's length, if it is not too long.
-  pub run_length : (k : ℕ) → at + 2 ≤ length t → get_or t at 0 ≡ 47 → get_or t (at + 1) 0 ≡ 47 → k ≡ name_run (take (length t - (at + 2)) (drop (at + 2) t)) → k ≤ most_name → LengthAt t at k
-  run_length zero h a b e m = no_step (λ n s. omega (arith, s.long, s.some, whole_run t (at + 2)))
-  run_length (suc k) h a b e m = long (omega arith) (step_found (suc k) h a b (e ∙ whole_run t (at + 2)) (omega arith) m)
+  pub run_length : (k : ℕ) → at + 2 ≤ length t → get_or t at 0 ≡ 47 → get_or t (at + 1) 0 ≡ 47 → k ≡ name_run (drop (at + 2) t) → k ≤ most_name → LengthAt t at k
+  run_length zero h a b e m = no_step (λ n s. omega (arith, s.long, s.some))
+  run_length (suc k) h a b e m = long (omega arith) (step_found (suc k) h a b e (omega arith) m)
 
--- A length that is not 0 is that of the step's name.
+  -- The same of the run of the part that is looked at, which is the rest of the text.
+  pub part_length : (k : ℕ) → at + 2 ≤ length t → get_or t at 0 ≡ 47 → get_or t (at + 1) 0 ≡ 47 → k ≡ name_run (take (length t - (at + 2)) (drop (at + 2) t)) → k ≤ most_name → LengthAt t at k
+  part_length k h a b e m = run_length k h a b (e ∙ whole_run t (at + 2)) m
+
+-- A length of 0 says that no step stands there.
+pub no_length : {t : List ℕ} {at k : ℕ} → LengthAt t at k → k ≡ 0 → NoStep t at
+no_length (long p f) e = absurd (omega arith)
+no_length (none z n) e = n
+
+-- Another length is that of the step's name.
 pub some_length : {t : List ℕ} {at k : ℕ} → LengthAt t at k → k ≢ 0 → FoundStep t at (at + 2 + k)
 some_length (long p f) e = f
 some_length (none z n) e = absurd (e z)

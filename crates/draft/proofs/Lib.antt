@@ -2,5 +2,6 @@
 pub mod Fixed
 pub mod Blank
 pub mod Bytes
+pub mod OneStep
 pub mod Lengths
 pub mod Closing

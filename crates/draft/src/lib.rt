@@ -29,7 +29,7 @@ pub struct Draft {
 }
 
 // How long the name is of the step, `//` and a name, at `at`; 0 where no step stands there.
-#[tactic(auto, using(crate::proofs::Lengths::too_near, crate::proofs::Lengths::too_long, crate::proofs::Lengths::run_length))]
+#[tactic(auto, using(crate::proofs::Lengths::too_near, crate::proofs::Lengths::too_long, crate::proofs::Lengths::part_length))]
 fn step_length(text: &[u8], at: usize) -> usize
     requires { at ≤ length text.now }
     ensures { LengthAt text.now at result }

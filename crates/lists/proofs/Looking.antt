@@ -43,6 +43,23 @@ module _ (b : List ℕ) (k low : ℕ) (x : Next) (s : Look) (w : Listing (labels
   looked (wrong_label start end p h g r) = subst (λ (y : Bool). Found y b k s) (sym g) (subst (Decides (BodyWrong b)) (sym r) (holds (wrong start end (says (Label start end) p) h)))
   looked (right_label start end p o h g n) = subst (λ (y : Bool). Found y b k s) (sym g) (on start end (says (Label start end) p) o h n)
 
+-- The first look finds what it says.
+pub looked_first : (b : List ℕ) (x : Next) (s : Look) → x ≡ next_at b 0 → Looked 0 x s → Found s.going b 0 s
+looked_first b x s e h = looked b 0 0 x s (listing_begin (labels b) (label_at b 0)) e h
+
+module _ (b : List ℕ) (k : ℕ) (s : Look) (f : Found s.going b k s) where
+  -- While the look goes on there is a label at the reader's place, and the next look finds what it says.
+  module _ (g : s.going ≡ true) where
+    pub there : k < labels b
+    there = (subst (λ (y : Bool). Found y b k s) g f).0
+
+    pub looked_next : (x : Next) (s' : Look) → x ≡ next_at b (k + 1) → Looked s.low x s' → Found s'.going b (k + 1) s'
+    looked_next x s' e h = looked b (k + 1) s.low x s' (subst (λ (y : Bool). Found y b k s) g f).1 e h
+
+  -- When the look is over its answer is right.
+  pub found_answers : s.going ≡ false → Decides (BodyWrong b) s.wrong
+  found_answers g = subst (λ (y : Bool). Found y b k s) g f
+
 -- What is kept between turns: the reader is the body's, and the look at the labels up to its place has found what it says.
 abbrev pub Kept : List ℕ → Reader → Look → Type 0
 Kept b r s = (r.body.now ≡ b) × Found s.going b r.at s
@@ -52,13 +69,13 @@ kept : (b : List ℕ) (r : Reader) (low : ℕ) (x : Next) (s : Look) → r.body.
 kept b r low x s e w n h = (e, looked b r.at low x s w (n ∙ ap (λ (c : List ℕ). next_at c r.at) e) h)
 
 -- So the first look does.
-pub looked_first : (body : Bor (List ℕ)) (r : Reader) (x : Next) (s : Look) → r ≡ reader_at body 0 → x ≡ next_of r → Looked 0 x s → Kept body.now r s
-looked_first body r x s e =
+pub kept_first : (body : Bor (List ℕ)) (r : Reader) (x : Next) (s : Look) → r ≡ reader_at body 0 → x ≡ next_of r → Looked 0 x s → Kept body.now r s
+kept_first body r x s e =
     kept body.now r 0 x s (ap (λ (q : Reader). q.body.now) e)
     (subst (λ (q : Reader). Listing (labels body.now) (label_at body.now 0) q.at 0) (sym e) (listing_begin (labels body.now) (label_at body.now 0)))
 
 -- And the next, where the look goes on from one that did.
-pub looked_on : (b : List ℕ) (r r' : Reader) (x : Next) (s s' : Look) → Kept b r s → s.going ≡ true → r' ≡ onward r → x ≡ next_of r' → Looked s.low x s' → Kept b r' s'
-looked_on b r r' x s s' k g e =
+pub kept_on : (b : List ℕ) (r r' : Reader) (x : Next) (s s' : Look) → Kept b r s → s.going ≡ true → r' ≡ onward r → x ≡ next_of r' → Looked s.low x s' → Kept b r' s'
+kept_on b r r' x s s' k g e =
     kept b r' s.low x s' (ap (λ (q : Reader). q.body.now) e ∙ k.0)
     (subst (λ (q : Reader). Listing (labels b) (label_at b 0) q.at s.low) (sym e) (subst (λ (y : Bool). Found y b r.at s) g k.1).1)

@@ -2,7 +2,7 @@
 use Prim.Native.Nat.{ℕ, ◌/◌, ◌≤◌, ◌<◌}
 use native.Mathlib.Omega.{arith}
 use mathlib.Core.Path.{◌≡◌}
-use mathlib.Core.Logic.{⊎_elim}
+use mathlib.Core.Logic.{◌⊎◌, inl, inr, ⊎_elim}
 use mathlib.Core.List.{List}
 use lib.ListN.{length}
 use Rattle.meaning.specs.declared.Label.{Label}
@@ -12,7 +12,7 @@ use Rattle.meaning.specs.Waits.{in_body}
 use Rattle.meaning.proofs.Decide.{or_not, le_decides}
 use Rattle.meaning.proofs.Laws.Label.{no_later}
 use Rattle.label.specs.Started.{Ascends, Between, Started}
-use Rattle.tally.specs.Sights.{Whole, FirstStart, first}
+use Rattle.tally.specs.Sights.{Whole, FirstStart, first, nothing}
 
 -- A place moves on only forward: records that start no later than the call are not counted off again.
 pub moves_on : {body : List ℕ} {n v from p : ℕ} → Between body 0 n v from n → Started body 0 n v p → from ≤ p
@@ -25,6 +25,11 @@ module _ (body : List ℕ) (c : Label) (p : ℕ) (ascends : Ascends body 0 (leng
 
   from_place : (k : ℕ) → k < length body / 8 → Inside (label_at body 0 k) c → (label_at body 0 p).start ≤ (label_at body 0 k).start
   from_place k l h = no_later (label_at body 0) (length body / 8) ascends p k (behind k h) l
+
+  -- The list ends there, or its next record starts no sooner than the call ends: then none lies inside.
+  pub sees_nothing : (s : ℕ) → (length body / 8 ≤ p) ⊎ (c.end ≤ (label_at body 0 p).start) → s ≡ c.end → FirstStart (in_body body) c s
+  sees_nothing s (inl e) is = nothing (λ k l h. omega (arith, behind k h)) is
+  sees_nothing s (inr e) is = nothing (λ k l h. omega (arith, from_place k l h, whole.ordered k l, h.before)) is
 
   -- Its next record starts before the call ends: then it lies inside.
   pub sees_first : (s : ℕ) → p < length body / 8 → s < c.end → s ≡ (label_at body 0 p).start → FirstStart (in_body body) c s

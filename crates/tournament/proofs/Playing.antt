@@ -6,6 +6,7 @@ use native.Mathlib.Omega.{arith}
 use mathlib.Core.Path.{◌≡◌, refl, sym, ap, subst, ◌∙◌}
 use mathlib.Core.Logic.{◌⊎◌, inl, inr, ◌≢◌, ⊎_elim}
 use mathlib.Core.List.{List}
+use lib.Bits.{differ, bit_xor, xor_step, xor_zero_r}
 use lib.ListN.{length, set, length-set}
 use lib.Seq.{get_or-set_same, get_or-set_other}
 use Rattle.meaning.specs.Limits.{most_tags}
@@ -19,6 +20,24 @@ halves n = go (dec_le n (2 * (n / 2)))
     go : Dec (n ≤ 2 * (n / 2)) → (n ≡ 2 * (n / 2)) ⊎ (n ≡ 2 * (n / 2) + 1)
     go (yes l) = inl (omega arith)
     go (no d) = let l = lt_of_not-le d in inr (omega arith)
+
+-- The last bit turned, with the bit.
+flip : (d : ℕ) → d < 2 → differ d 1 + d ≡ 1
+flip zero l = refl
+flip (suc zero) l = refl
+flip (suc (suc d)) l = absurd (omega arith)
+
+-- Twice the half and the last bit turned.
+beside_sum : (i x y d : ℕ) → x ≡ y * 2 + d → y ≡ i / 2 → d + i % 2 ≡ 1 → x + 2 * (i % 2) ≡ i + 1
+beside_sum i x y d e f g = omega arith
+
+-- With its last bit turned an even number is one more, and an odd one is one less.
+pub beside_is : (i : ℕ) → bit_xor i 1 + 2 * (i % 2) ≡ i + 1
+beside_is i = beside_sum i (bit_xor i 1) (bit_xor (i / 2) 0) (differ (i % 2) 1) (xor_step i 1) (xor_zero_r (i / 2)) (flip (i % 2) (omega arith))
+
+-- The node beside one that is below 2m is below it too.
+pub beside_in : (m i j : ℕ) → i < 2 * m → j + 2 * (i % 2) ≡ i + 1 → j < 2 * m
+beside_in m i j l e = let h : i / 2 < m = omega arith in omega arith
 
 module _ (m : ℕ) (xs : List ℕ) (tree : Tree m xs) where
   -- The root is at most each node, by induction on the node's number.
@@ -82,6 +101,14 @@ played_node m i v xs pos len w won k p l h = go (ℕ_discrete k i)
 played_all : (m : ℕ) (xs : List ℕ) → length xs ≡ nodes → Played m 0 xs → Tree m xs
 unfolding Played
 played_all m xs len w = record { long = len; node = λ i p l. w i p l (λ e. omega arith) }
+
+-- The first of two numbers is the lesser when it is at most the second.
+pub lesser_left : (a b : ℕ) → a ≤ b → Lesser a a b
+lesser_left a b l = record { left = omega arith; right = l; one = inl refl }
+
+-- The second of two numbers is the lesser when it is below the first.
+pub lesser_right : (a b : ℕ) → b < a → Lesser b a b
+lesser_right a b l = record { left = omega arith; right = omega arith; one = inr refl }
 
 -- Which of two numbers stands first does not matter to which is the lesser.
 lesser_sym : (v a b : ℕ) → Lesser v a b → Lesser v b a

@@ -1,4 +1,4 @@
-//! Links the proved library, which `rt staticlib roadthrum_c` makes in the repository's folder.
+//! Links the proved library, which `make library` makes in the repository's folder.
 
 use std::path::PathBuf;
 

@@ -16,7 +16,9 @@ use mathlib.Core.Path.{◌≡◌}
 use mathlib.Core.Bool.{Bool}
 use mathlib.Core.List.{List, [], ◌∷◌, ◌++◌}
 use lib.ListN.{length, drop}
+use Rattle.std.specs.Prelude.{Option, Result, Ok}
 use Rattle.meaning.specs.declared.Page.{Page}
+use Rattle.meaning.specs.declared.refusal.Refusal.{Refusal}
 use Rattle.meaning.specs.Day.{total}
 use Rattle.meaning.specs.Notation.{Path}
 use Rattle.meaning.specs.Picks.{asked}
@@ -40,7 +42,7 @@ pub record Asking : Type 0 where
   pub rows : List (List ℕ)
   pub more : Bool
   pub next : ℕ
-  pub unknown : ℕ
+  pub unknown : Option ℕ
 
 -- A row of the table: a question, an index with the number that the check call gives, or a lawful index without records.
 pub data Case : Type 0 where
@@ -58,9 +60,12 @@ abbrev pub joined : List (List ℕ) → List ℕ
 joined [] = []
 joined (w ∷ ws) = w ++ joined ws
 
--- The result that the table says.
-abbrev pub result_of : Asking → Page
-result_of c = record { refusal = 0; rows = length c.positions; more = c.more; next = c.next; unknown = c.unknown }
+-- The page that the table says.
+abbrev pub page_in : Asking → Page
+page_in c = record { rows = length c.positions; more = c.more; next = c.next; unknown = c.unknown }
+
+abbrev pub result_of : Asking → Result Page Refusal
+result_of c = Ok (page_in c)
 
 -- The buffer after rows were written to its beginning.
 abbrev pub over : List ℕ → List ℕ → List ℕ

@@ -16,6 +16,7 @@ pub mod Sum
 pub mod Waits
 pub mod AddUp
 pub mod Table
+pub mod Numbers
 pub mod Promise
 pub mod Few
 pub mod Traffic

@@ -1,9 +1,7 @@
 -- The day index, a list of bytes: its table of contents, its lists of labels, and refusals 1 to 6.
-use Rattle.std.specs.Prelude.{ℕ, zero, suc, ◌+◌, ◌*◌, ◌<◌, ◌≡◌, ◌⊎◌, ◌≢◌, cond, List, length, take, drop}
+use Rattle.std.specs.Prelude.{ℕ, zero, suc, ◌+◌, ◌*◌, ◌<◌, ◌≡◌, ◌⊎◌, ◌≢◌, cond, List, length, take, drop, Option, Some, None}
 use Rattle.meaning.specs.declared.Label.{Label}
 use Rattle.meaning.specs.declared.Body.{Body}
-use Rattle.meaning.specs.declared.Found.{Found}
-use Rattle.meaning.specs.declared.Found.TheVariants.{Known, Unknown}
 use Rattle.meaning.specs.Limits.{most_tags, most_labels, most_name}
 use Rattle.meaning.specs.Bytes.{u16_at, u32_at}
 use Rattle.meaning.specs.Labels.{Lists, Unordered, Tangled}
@@ -64,9 +62,9 @@ Has b n r = (r < tags b) × (name_field b r ≡ filled n)
 
 -- What looking up a name finds, case by case: a known list is that of a row that has the name, with the row's offset and number of labels,
 -- which may be 0; a name is unknown where no row has it.
-abbrev pub Finds : List ℕ → List ℕ → Found → Type 0
-Finds b n (Known l) = (r : ℕ) × Has b n r × (l ≡ row_list b r)
-Finds b n Unknown = (r : ℕ) → Has b n r → ⊥
+abbrev pub Finds : List ℕ → List ℕ → Option Body → Type 0
+Finds b n (Some l) = (r : ℕ) × Has b n r × (l ≡ row_list b r)
+Finds b n None = (r : ℕ) → Has b n r → ⊥
 
 -- The list of a name among the first r rows; a name without a row has no records.
 unfoldable pub list_among : List ℕ → List ℕ → ℕ → Body

@@ -35,9 +35,9 @@ pub record Sound (w : Traffic) (entries : ℕ) : Type 0 where
 -- The figures with one call more, which an ending ends after a wait of d.
 abbrev pub one_ended : Ending → ℕ → Figures → Figures
 one_ended e d f =
-    record { refusal = f.refusal; calls = f.calls + 1; boarded = f.boarded + of_ending 1 0 e; cancelled = f.cancelled + of_ending 0 1 e; left_open = f.left_open; total = f.total + d; longest = max f.longest d; over = f.over + 1 }
+    record { calls = f.calls + 1; boarded = f.boarded + of_ending 1 0 e; cancelled = f.cancelled + of_ending 0 1 e; left_open = f.left_open; total = f.total + d; longest = max f.longest d; over = f.over + 1 }
 
 -- The figures with one call more, which is open.
 abbrev pub one_open : Figures → Figures
 one_open f =
-    record { refusal = f.refusal; calls = f.calls + 1; boarded = f.boarded; cancelled = f.cancelled; left_open = f.left_open + 1; total = f.total; longest = f.longest; over = f.over }
+    record { calls = f.calls + 1; boarded = f.boarded; cancelled = f.cancelled; left_open = f.left_open + 1; total = f.total; longest = f.longest; over = f.over }

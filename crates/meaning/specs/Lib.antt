@@ -8,6 +8,7 @@ pub mod Notation
 pub mod Picks
 pub mod Pages
 pub mod Waits
+pub mod Numbers
 pub mod Refusals
 pub mod Promises
 pub mod Answers

@@ -1,7 +1,7 @@
 -- Pages: the records of a call, its rows in the lent buffer, the step whose name is unknown, and its result.
-use Rattle.std.specs.Prelude.{ℕ, ◌≤◌, ◌<◌, ◌/◌, min, ◌≡◌, ◌⊎◌, false, List, [], ◌∷◌, ◌++◌, ltb, length, take, drop, get_or}
+use Rattle.std.specs.Prelude.{ℕ, ◌≤◌, ◌<◌, ◌/◌, min, ◌≡◌, ◌⊎◌, List, [], ◌∷◌, ◌++◌, ltb, length, take, drop, get_or, Option, Some, None, Result, Err}
 use Rattle.meaning.specs.declared.Page.{Page}
-use Rattle.meaning.specs.declared.Found.TheVariants.{Unknown}
+use Rattle.meaning.specs.declared.refusal.Refusal.{Refusal}
 use Rattle.meaning.specs.Day.{Finds}
 use Rattle.meaning.specs.Notation.{Path, steps}
 use Rattle.meaning.specs.Picks.{Asked, Returned, step_at}
@@ -40,7 +40,7 @@ abbrev pub evidence_room : Asked → ℕ → ℕ
 evidence_room a len = len / a.steps
 
 -- A page: the first records from a place on, as many as there is room for, stand from the buffer's beginning and the rest of the
--- buffer stays; the result has refusal 0, the rows written, whether a further record remains, and the next place: the position of the
+-- buffer stays; the result has the rows written, whether a further record remains, and the next place: the position of the
 -- first record not written, or, if none remains, the number of labels in the returned step's list.
 pub record Paged (a : Asked) (Row : ℕ → List ℕ → Type 0) (place room : ℕ) (entry exit : List ℕ) (r : Page) : Type 0 where
   pub all : List ℕ
@@ -48,33 +48,28 @@ pub record Paged (a : Asked) (Row : ℕ → List ℕ → Type 0) (place room : �
   pub written : List ℕ
   pub rows_written : Rows Row (take r.rows all) written
   pub buffer : exit ≡ written ++ drop (length written) entry
-  pub refusal : r.refusal ≡ 0
   pub rows : r.rows ≡ min room (length all)
   pub more : r.more ≡ ltb r.rows (length all)
   pub next : r.next ≡ get_or all r.rows (a.count a.returned)
 
--- What a result tells in place of a step's number where there is no such step.
+-- The number that stands for no step where a step's number is told.
 abbrev pub no_step : ℕ
 no_step = 32
 
--- The first of the steps below `many` of which something holds, or 32 if there is none.
-pub data First (Such : ℕ → Type 0) (many : ℕ) : ℕ → Type 0 where
-  here : {s : ℕ} → s < many → Such s → ((j : ℕ) → j < s → Such j → ⊥) → First Such many s
-  nowhere : ((j : ℕ) → j < many → Such j → ⊥) → First Such many no_step
+-- The first of the steps below `many` of which something holds, or none if there is none.
+pub data First (Such : ℕ → Type 0) (many : ℕ) : Option ℕ → Type 0 where
+  here : {s : ℕ} → s < many → Such s → ((j : ℕ) → j < s → Such j → ⊥) → First Such many (Some s)
+  nowhere : ((j : ℕ) → j < many → Such j → ⊥) → First Such many None
 
 -- No row of the index has the name of step s.
 abbrev pub NoRow : List ℕ → Path → ℕ → Type 0
-NoRow b p s = Finds b (step_at p s).name Unknown
+NoRow b p s = Finds b (step_at p s).name None
 
--- The unknown step that a result tells: the first step in text order, in brackets too, whose name has no row, or 32 if there is none.
-abbrev pub FirstUnknown : List ℕ → Path → ℕ → Type 0
+-- The unknown step that a result tells: the first step in text order, in brackets too, whose name has no row, or none if there is none.
+abbrev pub FirstUnknown : List ℕ → Path → Option ℕ → Type 0
 FirstUnknown b p = First (NoRow b p) (steps p)
 
--- A refusal: its number, 0 rows, no further record, next place 0, no unknown step, and the lent buffer unchanged.
-pub record Refused (n : ℕ) (entry exit : List ℕ) (r : Page) : Type 0 where
+-- A refusal: the result is that error and no page, and the lent buffer is unchanged.
+pub record Refused (e : Refusal) (entry exit : List ℕ) (r : Result Page Refusal) : Type 0 where
   pub buffer : exit ≡ entry
-  pub refusal : r.refusal ≡ n
-  pub rows : r.rows ≡ 0
-  pub more : r.more ≡ false
-  pub next : r.next ≡ 0
-  pub unknown : r.unknown ≡ no_step
+  pub refusal : r ≡ Err e

@@ -1,8 +1,10 @@
 -- The refusal table: its rows in the order in which the checks run, and which number is given.
-use Rattle.std.specs.Prelude.{ℕ, ◌≡◌, ◌⊎◌, List}
+use Rattle.std.specs.Prelude.{ℕ, ◌≡◌, ◌⊎◌, List, Result, Ok, Err}
 use Rattle.meaning.specs.Day.{TooShort, OtherVersion, WrongContents, WrongLength, WrongLists, WrongNesting}
 use Rattle.meaning.specs.Notation.{TooLong, NotFollowing, TooLarge}
 use Rattle.meaning.specs.Waits.{NoEntry, TimesDescend}
+use Rattle.meaning.specs.declared.refusal.Refusal.{Refusal}
+use Rattle.meaning.specs.Numbers.{number_of}
 
 -- A table of refusals: a number with its reason, and the rows after it.
 pub data Table : Type 1 where
@@ -49,6 +51,12 @@ Clear (row m reason rest) = (reason → ⊥) × Clear rest
 pub data Verdict (t : Table) : ℕ → Type 0 where
   clear : Clear t → Verdict t 0
   given : {n : ℕ} → Given t n → Verdict t n
+
+-- What a test of a table answers, case by case: where it succeeds no reason of the table applies, and an error is the refusal whose number is
+-- given.
+abbrev pub Judged : {A : Type 0} → Table → Result A Refusal → Type 0
+Judged t (Ok a) = Clear t
+Judged t (Err e) = Given t (number_of e)
 
 -- A lawful index: no reason of 1 to 6 applies.
 abbrev pub Lawful : List ℕ → Type 0

@@ -99,7 +99,6 @@ pub data Longest (Has : ℕ → ℕ → Type 0) (n : ℕ) : ℕ → Type 0 where
 -- The figures of the first n calls: how many they are, and how many of them are boarded, cancelled and open; their total wait, and the
 -- longest; and, for the mean, over how many the total is: those that are closed.
 pub record Figured (w : Traffic) (n : ℕ) (f : Figures) : Type 0 where
-  pub refusal : f.refusal ≡ 0
   pub calls : f.calls ≡ n
   pub boarded : Number (Ended w board) n f.boarded
   pub cancelled : Number (Ended w cancel) n f.cancelled
@@ -108,9 +107,9 @@ pub record Figured (w : Traffic) (n : ℕ) (f : Figures) : Type 0 where
   pub longest : Longest (Waited w) n f.longest
   pub over : Number (Closed w) n f.over
 
--- On refusal there is its number, and all figures are 0.
-abbrev pub no_figures : ℕ → Figures
-no_figures n = record { refusal = n; calls = 0; boarded = 0; cancelled = 0; left_open = 0; total = 0; longest = 0; over = 0 }
+-- The figures of no calls: all are 0.
+abbrev pub no_figures : Figures
+no_figures = record { calls = 0; boarded = 0; cancelled = 0; left_open = 0; total = 0; longest = 0; over = 0 }
 
 -- Refusal 20: some start or end in the index, of whatever tag, has no entry.
 abbrev pub NoEntry : List ℕ → List ℕ → Type 0

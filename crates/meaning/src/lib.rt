@@ -1,28 +1,30 @@
 // What the public results are made of, and the limits of document 01, for every crate to share.
 #![tactic(auto)]
 
+mod refusal;
+
 ghost use Rattle.std.specs.Prelude.{◌≡◌};
 ghost use Rattle.meaning.specs.Limits.{most_tags, most_labels, most_nested, most_name, most_text, most_steps, most_depth};
 ghost use Rattle.meaning.specs.Pages.{no_step};
 ghost use Rattle.meaning.specs.Waits.{no_figures};
 
-// What a call says of the page that it wrote. A refusal has its number, 0 rows, no further record, next place 0 and no unknown step.
-#[derive(Clone, Copy)]
+pub use refusal::Refusal;
+
+// What a call says of the page that it wrote.
+#[derive(Clone, Copy, PartialEq, Eq)]
 pub struct Page {
-    // The number of the refusal table, or 0.
-    pub refusal: u32,
     // How many rows were written.
     pub rows: usize,
     // Whether a further record remains.
     pub more: bool,
     // The place from which the next page goes on.
     pub next: u32,
-    // The first step whose name has no row in the index, or NO_STEP.
-    pub unknown: u32,
+    // The first step whose name has no row in the index, if there is one.
+    pub unknown: Option<u8>,
 }
 
 impl Page {
-    // What a page tells in place of a step's number where no step's name is unknown.
+    // What numbers tell in place of a step's where no step's name is unknown.
     pub const NO_STEP: u32 = 32;
 
     pub fn no_step() -> u32
@@ -32,11 +34,9 @@ impl Page {
     }
 }
 
-// The waiting table of a day. A refusal has its number, and all figures are 0.
-#[derive(Clone, Copy)]
+// The waiting table of a day.
+#[derive(Clone, Copy, PartialEq, Eq)]
 pub struct Figures {
-    // The number of the refusal table, or 0.
-    pub refusal: u32,
     // How many calls there are, and how many of them were boarded, were cancelled, and are open.
     pub calls: u64,
     pub boarded: u64,
@@ -50,12 +50,11 @@ pub struct Figures {
 }
 
 impl Figures {
-    // A refusal, by its number; with 0 the figures of no calls.
-    pub fn none(refusal: u32) -> Figures
-        ensures { result ≡ no_figures refusal }
+    // The figures of no calls.
+    pub fn none() -> Figures
+        ensures { result ≡ no_figures }
     {
         Figures {
-            refusal: refusal,
             calls: 0,
             boarded: 0,
             cancelled: 0,
@@ -96,13 +95,6 @@ impl Label {
 pub struct Body {
     pub offset: usize,
     pub count: usize,
-}
-
-// What looking up a name finds: the list of the row that has the name, or that no row has it.
-#[derive(Clone, Copy)]
-pub enum Found {
-    Known(Body),
-    Unknown,
 }
 
 // A day index.
@@ -157,8 +149,8 @@ pub struct Step {
     // Where its name starts in the text, and how long it is.
     pub start: u16,
     pub length: u8,
-    // The number of the step that it hangs from, or NOTHING.
-    pub hangs: u8,
+    // The number of the step that it hangs from, if it hangs from one.
+    pub hangs: Option<u8>,
 }
 
 impl Step {
@@ -166,9 +158,6 @@ impl Step {
 
     // Most brackets that stand one in the other around a step.
     pub const MOST_DEPTH: usize = 8;
-
-    // What stands for the number of a step where a step hangs from nothing.
-    pub const NOTHING: u8 = 255;
 
     pub fn most() -> usize
         ensures { result ≡ most_steps }

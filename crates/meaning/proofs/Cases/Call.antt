@@ -5,10 +5,12 @@ use native.Mathlib.Omega.{arith}
 use mathlib.Core.Path.{◌≡◌, sym, subst}
 use mathlib.Core.Logic.{◌⊎◌, inl, inr}
 use mathlib.Core.Bool.{Bool, true, false, ◌&&◌}
-use mathlib.Core.List.{List, []}
+use mathlib.Core.List.{List, [], ◌∷◌}
 use lib.Dec.{T, leb, ltb, eqb}
 use lib.ListN.{length}
 use mir.Facts.{and_yes}
+use Rattle.std.specs.Prelude.{Err}
+use Rattle.meaning.specs.declared.refusal.Refusal.{Refusal}
 use Rattle.meaning.specs.Answers.{Decides}
 use Rattle.meaning.specs.Limits.{most_text, most_steps, most_depth}
 use Rattle.meaning.specs.Names.{same}
@@ -16,6 +18,7 @@ use Rattle.meaning.specs.Notation.{Path, write, Named, Follows, steps, depth, To
 use Rattle.meaning.specs.Picks.{asked}
 use Rattle.meaning.specs.Ends.{Stops}
 use Rattle.meaning.specs.Pages.{answer_room, evidence_room}
+use Rattle.meaning.specs.Numbers.{number_of, numbers}
 use Rattle.meaning.specs.Refusals.{Given, check_table, question_table, call_table}
 use Rattle.meaning.specs.Promises.{Checked, refused, Answered, Shown}
 use Rattle.meaning.proofs.Decide.{passed, le_decides, lt_decides, eq_decides, and_decides, either_decides}
@@ -23,7 +26,7 @@ use Rattle.meaning.proofs.Decide.Day.{check_of, check_agrees}
 use Rattle.meaning.proofs.Decide.Notation.{named_b, named_decides}
 use Rattle.meaning.proofs.Laws.Same.{same_decides}
 use Rattle.meaning.proofs.Laws.Notation.{path_no_stop}
-use Rattle.meaning.proofs.Laws.Page.{refusal_of, refusal_is}
+use Rattle.meaning.proofs.Laws.Page.{refusal_told, refusal_is}
 use Rattle.meaning.proofs.Laws.Table.{checked_lawful, verdict_given, given_first, given_after}
 use Rattle.meaning.proofs.Cases.{Room, ample, just, Asking, IsRoom, joined, result_of, over, AskRight, Every, every_as}
 use Rattle.meaning.proofs.Cases.Test.{ask_b, ask_sound, right_b}
@@ -37,24 +40,26 @@ pub data Why : Type 0 where
   large : Path → Why
 
 -- A call: a question that is accepted, with its outcome for whatever buffer is lent; the answer call or the evidence call with the buffer
--- before and after; or an index and a text with the number that both calls for rows refuse them with.
+-- before and after; or an index and a text with the refusal that both calls for rows give.
 pub data Call : Type 0 where
   accepts : Asking → Call
   answers : Asking → List ℕ → List ℕ → Call
   shows : Asking → List ℕ → List ℕ → Call
-  refuses : List ℕ → List ℕ → Why → ℕ → Call
+  refuses : List ℕ → List ℕ → Why → Refusal → Call
 
--- Both calls for rows refuse with the number, whatever the place, and leave whatever buffer is lent.
-pub record RefuseRight (b text : List ℕ) (n : ℕ) : Type 0 where
-  pub answered : (place : ℕ) (entry : List ℕ) → Answered b text place entry entry (refusal_of n)
-  pub shown : (place : ℕ) (entry : List ℕ) → Shown b text place entry entry (refusal_of n)
+-- Both calls for rows refuse so, whatever the place, and leave whatever buffer is lent; and the numbers of that are the refusal's, and 0 rows,
+-- no further record, next place 0 and unknown step 32.
+pub record RefuseRight (b text : List ℕ) (e : Refusal) : Type 0 where
+  pub answered : (place : ℕ) (entry : List ℕ) → Answered b text place entry entry (Err e)
+  pub shown : (place : ℕ) (entry : List ℕ) → Shown b text place entry entry (Err e)
+  pub told : numbers (Err e) ≡ number_of e ∷ 0 ∷ 0 ∷ 0 ∷ 32 ∷ []
 
 -- What is said of a call.
 abbrev pub CallRight : Call → Type 0
 CallRight (accepts c) = AskRight c
 CallRight (answers c entry exit) = Answered c.index c.text c.place entry exit (result_of c)
 CallRight (shows c entry exit) = Shown c.index c.text c.place entry exit (result_of c)
-CallRight (refuses b text why n) = RefuseRight b text n
+CallRight (refuses b text why e) = RefuseRight b text e
 
 -- What the test finds about a refusal.
 abbrev Due : List ℕ → List ℕ → Why → ℕ → Type 0
@@ -121,7 +126,7 @@ unfolding right_b due_b buffer_b
 call_b (accepts c) = ask_b c
 call_b (answers c entry exit) = buffer_b c (answer_room (asked c.index c.tree) (length entry)) c.positions entry exit && ask_b c
 call_b (shows c entry exit) = buffer_b c (evidence_room (asked c.index c.tree) (length entry)) (joined c.rows) entry exit && ask_b c
-call_b (refuses b text why n) = due_b b text why n
+call_b (refuses b text why e) = due_b b text why (number_of e)
 
 -- A call that passes its test is right.
 pub call_right : (c : Call) → T (call_b c) → CallRight c
@@ -137,9 +142,9 @@ call_right (shows c entry exit) t =
     let b = and_yes (buffer_b c room (joined c.rows) entry exit) (ask_b c) t in
     let f = passed (buffer_decides c room (joined c.rows) entry exit) b.0 in
     subst (λ (x : List ℕ). Shown c.index c.text c.place entry x (result_of c)) f.1 ((ask_sound c b.1).shown entry f.0)
-call_right (refuses b text why n) t =
-    let g : Given (call_table b text) n = given_due b text n why (passed (due_decides b text why n) t) in
-    record { answered = λ place entry. refused g (refusal_is n entry); shown = λ place entry. refused g (refusal_is n entry) }
+call_right (refuses b text why e) t =
+    let g : Given (call_table b text) (number_of e) = given_due b text (number_of e) why (passed (due_decides b text why (number_of e)) t) in
+    record { answered = λ place entry. refused g (refusal_is e entry); shown = λ place entry. refused g (refusal_is e entry); told = refusal_told e }
 
 -- Every call of a table is right.
 abbrev pub CallsRight : List Call → Type 0

@@ -4,6 +4,8 @@ use Prim.Native.Nat.{ℕ, zero, suc}
 use mathlib.Core.Bool.{Bool, true, false}
 use mathlib.Core.List.{List, [], ◌∷◌, ◌++◌}
 use lib.ListN.{replicate}
+use Rattle.std.specs.Prelude.{Some, None}
+use Rattle.meaning.specs.declared.refusal.Refusal.TheVariants.{TooShort, OtherVersion, TooLong, NotFollowing, TooLarge}
 use Rattle.meaning.specs.Notation.{Path, path, finish, bracket, next}
 use Rattle.meaning.proofs.Cases.{Room, ample, just, Asking}
 use Rattle.meaning.proofs.Cases.SmallDay.{bytes, small_day}
@@ -34,35 +36,35 @@ deep_text n = times n (bytes "//a[") ++ bytes "//a" ++ times n (bytes "]")
 
 -- A question put to the empty index, which gives nothing and has no row for its first step.
 abbrev nothing_found : List ℕ → Path → Asking
-nothing_found text tree = record { index = empty; text = text; tree = tree; place = 0; room = ample; positions = []; rows = []; more = false; next = 0; unknown = 0 }
+nothing_found text tree = record { index = empty; text = text; tree = tree; place = 0; room = ample; positions = []; rows = []; more = false; next = 0; unknown = Some 0 }
 
 -- `//call[//board]` put to the small day, of whose records 0, 1, 2 and 3 there is room for so many.
 abbrev calls : Room → List ℕ → List (List ℕ) → Bool → ℕ → Asking
 calls room positions rows more after =
-    record { index = small_day; text = bytes "//call[//board]"; tree = path (bytes "call") (bracket (path (bytes "board") finish) finish); place = 0; room = room; positions = positions; rows = rows; more = more; next = after; unknown = 32 }
+    record { index = small_day; text = bytes "//call[//board]"; tree = path (bytes "call") (bracket (path (bytes "board") finish) finish); place = 0; room = room; positions = positions; rows = rows; more = more; next = after; unknown = None }
 
 -- An index's number comes before a question's; a text without a byte; 1,025 bytes, and 1,024 bytes of 57 steps; 32 steps and 33; 8 deep and
 -- 9. A buffer of 5 numbers has room for 5 positions or for 2 rows of 2 numbers, and one of 1 number for no such row.
 unfoldable pub written_out : List Call
 unfolding bytes small_day times before deep
 written_out =
-    refuses (0 ∷ 0 ∷ 1 ∷ []) (bytes "//call") unlawful 1
+    refuses (0 ∷ 0 ∷ 1 ∷ []) (bytes "//call") unlawful TooShort
     ∷
-    refuses (0 ∷ 0 ∷ 2 ∷ 0 ∷ []) [] unlawful 2
+    refuses (0 ∷ 0 ∷ 2 ∷ 0 ∷ []) [] unlawful OtherVersion
     ∷
-    refuses empty [] blank 8
+    refuses empty [] blank NotFollowing
     ∷
-    refuses empty (times 56 (bytes "//aaaaaaaaaaaaaaaa") ++ bytes "//aaaaaaaaaaaaaaa") long 7
+    refuses empty (times 56 (bytes "//aaaaaaaaaaaaaaaa") ++ bytes "//aaaaaaaaaaaaaaa") long TooLong
     ∷
-    refuses empty (times 56 (bytes "//aaaaaaaaaaaaaaaa") ++ bytes "//aaaaaaaaaaaaaa") (large (before 56 (replicate 16 97) (path (replicate 14 97) finish))) 9
+    refuses empty (times 56 (bytes "//aaaaaaaaaaaaaaaa") ++ bytes "//aaaaaaaaaaaaaa") (large (before 56 (replicate 16 97) (path (replicate 14 97) finish))) TooLarge
     ∷
     accepts (nothing_found (times 32 (bytes "//a")) (before 31 (bytes "a") (path (bytes "a") finish)))
     ∷
-    refuses empty (times 33 (bytes "//a")) (large (before 32 (bytes "a") (path (bytes "a") finish))) 9
+    refuses empty (times 33 (bytes "//a")) (large (before 32 (bytes "a") (path (bytes "a") finish))) TooLarge
     ∷
     accepts (nothing_found (deep_text 8) (deep 8))
     ∷
-    refuses empty (deep_text 9) (large (deep 9)) 9
+    refuses empty (deep_text 9) (large (deep 9)) TooLarge
     ∷
     answers (calls (just 5) (0 ∷ 1 ∷ 2 ∷ 3 ∷ []) ((0 ∷ 0 ∷ []) ∷ (1 ∷ 0 ∷ []) ∷ (2 ∷ 0 ∷ []) ∷ (3 ∷ 1 ∷ []) ∷ []) false 5) (9 ∷ 9 ∷ 9 ∷ 9 ∷ 9 ∷ []) (0 ∷ 1 ∷ 2 ∷ 3 ∷ 9 ∷ [])
     ∷

@@ -2,6 +2,7 @@
 use Prim.Native.Nat.{ℕ}
 use mathlib.Core.Bool.{Bool, true, false}
 use mathlib.Core.List.{List, [], ◌∷◌, ◌++◌}
+use Rattle.std.specs.Prelude.{Option, Some, None}
 use Rattle.meaning.specs.Notation.{Path, path, After, finish, bracket, next}
 use Rattle.meaning.proofs.Cases.SmallDay.{bytes, label, row, head, small_day}
 use Rattle.meaning.proofs.Cases.{Room, ample, just, Case, ask, check, empty, All}
@@ -21,7 +22,7 @@ abbrev pub lobby : After → Path
 lobby = path (bytes "lobby")
 
 -- A question put to the small day at a place with a room, and its outcome: positions, evidence rows, more, next place, unknown step.
-abbrev asks : List ℕ → Path → ℕ → Room → List ℕ → List (List ℕ) → Bool → ℕ → ℕ → Case
+abbrev asks : List ℕ → Path → ℕ → Room → List ℕ → List (List ℕ) → Bool → ℕ → Option ℕ → Case
 asks text tree place room positions rows more after unknown =
     ask (record { index = small_day; text = text; tree = tree; place = place; room = room; positions = positions; rows = rows; more = more; next = after; unknown = unknown })
 
@@ -31,25 +32,25 @@ asks text tree place room positions rows more after unknown =
 unfoldable pub stars : List Case
 unfolding small_day bytes
 stars =
-    asks (bytes "//call[//cancel]//board") (call (bracket (cancel finish) (next (board finish)))) 0 ample (0 ∷ []) ((0 ∷ 0 ∷ 0 ∷ []) ∷ []) false 2 32
+    asks (bytes "//call[//cancel]//board") (call (bracket (cancel finish) (next (board finish)))) 0 ample (0 ∷ []) ((0 ∷ 0 ∷ 0 ∷ []) ∷ []) false 2 None
     ∷
-    asks (bytes "//call[//board]") (call (bracket (board finish) finish)) 0 ample (0 ∷ 1 ∷ 2 ∷ 3 ∷ []) ((0 ∷ 0 ∷ []) ∷ (1 ∷ 0 ∷ []) ∷ (2 ∷ 0 ∷ []) ∷ (3 ∷ 1 ∷ []) ∷ []) false 5 32
+    asks (bytes "//call[//board]") (call (bracket (board finish) finish)) 0 ample (0 ∷ 1 ∷ 2 ∷ 3 ∷ []) ((0 ∷ 0 ∷ []) ∷ (1 ∷ 0 ∷ []) ∷ (2 ∷ 0 ∷ []) ∷ (3 ∷ 1 ∷ []) ∷ []) false 5 None
     ∷
-    asks (bytes "//call[//cancel]") (call (bracket (cancel finish) finish)) 0 ample (0 ∷ 1 ∷ []) ((0 ∷ 0 ∷ []) ∷ (1 ∷ 1 ∷ []) ∷ []) false 5 32
+    asks (bytes "//call[//cancel]") (call (bracket (cancel finish) finish)) 0 ample (0 ∷ 1 ∷ []) ((0 ∷ 0 ∷ []) ∷ (1 ∷ 1 ∷ []) ∷ []) false 5 None
     ∷
-    asks (bytes "//call//call//call") (call (next (call (next (call finish))))) 0 ample (2 ∷ []) ((0 ∷ 1 ∷ 2 ∷ []) ∷ []) false 5 32
+    asks (bytes "//call//call//call") (call (next (call (next (call finish))))) 0 ample (2 ∷ []) ((0 ∷ 1 ∷ 2 ∷ []) ∷ []) false 5 None
     ∷
-    asks (bytes "//call//cancel//board") (call (next (cancel (next (board finish))))) 0 ample [] [] false 2 32
+    asks (bytes "//call//cancel//board") (call (next (cancel (next (board finish))))) 0 ample [] [] false 2 None
     ∷
-    asks (bytes "//call[//cancel][//cancel]") (call (bracket (cancel finish) (bracket (cancel finish) finish))) 0 ample (0 ∷ 1 ∷ []) ((0 ∷ 0 ∷ 0 ∷ []) ∷ (1 ∷ 1 ∷ 1 ∷ []) ∷ []) false 5 32
+    asks (bytes "//call[//cancel][//cancel]") (call (bracket (cancel finish) (bracket (cancel finish) finish))) 0 ample (0 ∷ 1 ∷ []) ((0 ∷ 0 ∷ 0 ∷ []) ∷ (1 ∷ 1 ∷ 1 ∷ []) ∷ []) false 5 None
     ∷
-    asks (bytes "//call[//call[//cancel]]//board") (call (bracket (call (bracket (cancel finish) finish)) (next (board finish)))) 0 ample (0 ∷ []) ((0 ∷ 1 ∷ 1 ∷ 0 ∷ []) ∷ []) false 2 32
+    asks (bytes "//call[//call[//cancel]]//board") (call (bracket (call (bracket (cancel finish) finish)) (next (board finish)))) 0 ample (0 ∷ []) ((0 ∷ 1 ∷ 1 ∷ 0 ∷ []) ∷ []) false 2 None
     ∷
-    asks (bytes "//lobby") (lobby finish) 0 ample [] [] false 0 0
+    asks (bytes "//lobby") (lobby finish) 0 ample [] [] false 0 (Some 0)
     ∷
-    asks (bytes "//call[//board]") (call (bracket (board finish) finish)) 2 (just 1) (2 ∷ []) ((2 ∷ 0 ∷ []) ∷ []) true 3 32
+    asks (bytes "//call[//board]") (call (bracket (board finish) finish)) 2 (just 1) (2 ∷ []) ((2 ∷ 0 ∷ []) ∷ []) true 3 None
     ∷
-    asks (bytes "//call[//board]") (call (bracket (board finish) finish)) 3 (just 0) [] [] true 3 32
+    asks (bytes "//call[//board]") (call (bracket (board finish) finish)) 3 (just 0) [] [] true 3 None
     ∷
     empty (0 ∷ 0 ∷ 1 ∷ 0 ∷ [])
     ∷

@@ -26,10 +26,10 @@ use Rattle.meaning.proofs.Laws.Table.{checked_lawful, clear_both}
 use Rattle.meaning.specs.Fit.{Fit}
 use Rattle.meaning.proofs.Laws.Day.{lawful_fit}
 use Rattle.meaning.proofs.Decide.Day.{check_of, check_agrees}
-use Rattle.meaning.proofs.Decide.Unknown.{no_row_b, first_passing, unknown_of, unknown_decides}
+use Rattle.meaning.proofs.Decide.Unknown.{no_row_b, first_passing, unknown_of, same_step, unknown_decides}
 use Rattle.meaning.proofs.Decide.Picks.{choose, edge_b, hung_b, pick_b, some_pick, returned_b, undercut_b, evidence_b, evidence_decides}
 use Rattle.meaning.proofs.Laws.Record.{filtered, records_of, records_found}
-use Rattle.meaning.proofs.Cases.{Room, ample, just, Asking, Case, ask, check, empty, IsRoom, joined, result_of, over, AskRight, Right, Every, every_as, All}
+use Rattle.meaning.proofs.Cases.{Room, ample, just, Asking, Case, ask, check, empty, IsRoom, joined, page_in, over, AskRight, Right, Every, every_as, All}
 
 -- How many of n records are written.
 abbrev pub writes : Room → ℕ → ℕ
@@ -96,7 +96,7 @@ unfoldable pub written_b : Asking → Bool
 written_b c = same (write c.tree []) c.text && (named_b c.tree && (leb (length c.text) most_text && (leb (steps c.tree) most_steps && leb (depth c.tree) most_depth)))
 
 unfoldable pub ask_b : Asking → Bool
-ask_b c = elim (eqb (check_of c.index) 0) [ true ↦ written_b c && (eqb (unknown_of c.index c.tree) c.unknown && listed_b c (all_of c)) | false ↦ false ]
+ask_b c = elim (eqb (check_of c.index) 0) [ true ↦ written_b c && (same_step (unknown_of c.index c.tree) c.unknown && listed_b c (all_of c)) | false ↦ false ]
 
 listed_decides : (c : Asking) → Fit (asked c.index c.tree) → (all : List ℕ) → Decides (Listed c all) (listed_b c all)
 unfolding listed_b
@@ -155,7 +155,7 @@ module _ (c : Asking) (e : check_of c.index ≡ 0) (w : Written c) (u : FirstUnk
 
   -- The page of a call, from the rows that it writes.
   page_of : (Row : ℕ → List ℕ → Type 0) (rows : List ℕ) → Rows Row c.positions rows → (room : ℕ) (entry : List ℕ) → IsRoom c.room (length c.positions) room
-      → Paged a Row c.place room entry (over rows entry) (result_of c)
+      → Paged a Row c.place room entry (over rows entry) (page_in c)
   page_of Row rows are room entry fits =
       let all : List ℕ = all_of c in
       let n : ℕ = written_of c all in
@@ -166,7 +166,6 @@ module _ (c : Asking) (e : check_of c.index ≡ 0) (w : Written c) (u : FirstUnk
         written = rows;
         rows_written = subst (λ (is : List ℕ). Rows Row is rows) (sym l.0 ∙ ap (λ (k : ℕ). take k all) (sym long)) are;
         buffer = refl;
-        refusal = refl;
         rows = enough c.room (length c.positions) (length all) room long fits;
         more = sym l.1.0 ∙ ap (λ (k : ℕ). ltb k (length all)) (sym long);
         next = sym l.1.1.0 ∙ ap (λ (k : ℕ). get_or all k (a.count a.returned)) (sym long);
@@ -184,7 +183,7 @@ ask_sound c t = let f = passed (ask_decides c) t in ask_right c f.0 f.1.0 f.1.1.
 
 -- The test of a case. Whoever unfolds it unfolds all that it computes with.
 unfoldable pub right_b : Case → Bool
-unfolding check_of u32_at labels list_among initial further all_further short is_name same write steps depth list last_step asked each some choose edge_b hung_b pick_b some_pick returned_b undercut_b evidence_b filtered records_of named_b no_row_b first_passing unknown_of each_b listed_b written_b ask_b
+unfolding check_of u32_at labels list_among initial further all_further short is_name same write steps depth list last_step asked each some choose edge_b hung_b pick_b some_pick returned_b undercut_b evidence_b filtered records_of named_b no_row_b first_passing unknown_of same_step each_b listed_b written_b ask_b
 right_b (ask c) = ask_b c
 right_b (check b n) = eqb (check_of b) n
 right_b (empty b) = eqb (check_of b) 0 && eqb (total b) 0

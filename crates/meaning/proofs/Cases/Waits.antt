@@ -1,11 +1,15 @@
 -- Waiting tables worked out by hand, each call with the record that ends its wait and with the wait itself, and lists of times that are refused.
 use Prim.Native.Nat.{ℕ, suc}
 use native.Mathlib.Omega.{arith}
-use mathlib.Core.Path.{◌≡◌, refl, sym, subst, ◌∙◌}
+use mathlib.Core.Path.{◌≡◌, refl, subst}
 use mathlib.Core.Bool.{Bool, ◌&&◌}
 use mathlib.Core.List.{List, [], ◌∷◌, ◌++◌}
 use lib.Dec.{T, eqb, ltb}
+use Rattle.std.specs.Prelude.{Ok, Err}
+use Rattle.meaning.specs.declared.refusal.Refusal.{Refusal}
+use Rattle.meaning.specs.declared.refusal.Refusal.TheVariants.{TooShort, NoEntry, TimesDescend}
 use Rattle.meaning.specs.declared.Figures.{Figures}
+use Rattle.meaning.specs.Numbers.{number_of, figure_numbers}
 use Rattle.meaning.specs.Answers.{Decides}
 use Rattle.meaning.specs.Bytes.{u32_at}
 use Rattle.meaning.specs.Names.{same}
@@ -28,19 +32,24 @@ pub data Became : Type 0 where
   by : Ending → ℕ → ℕ → Became
   neither : Became
 
--- A list of times put to a day: it is refused with a number; or each call has this outcome, and the figures are these.
+-- A list of times put to a day: it is refused; or each call has this outcome, and the figures are these.
 pub data Case : Type 0 where
-  refuses : List ℕ → List ℕ → ℕ → Case
+  refuses : List ℕ → List ℕ → Refusal → Case
   tables : List ℕ → List ℕ → List Became → Figures → Case
 
--- The figures of a refusal, written out.
-abbrev pub refusal : ℕ → Figures
-refusal n = record { refusal = n; calls = 0; boarded = 0; cancelled = 0; left_open = 0; total = 0; longest = 0; over = 0 }
+-- The figures of no calls, written out.
+abbrev pub nobody : Figures
+nobody = record { calls = 0; boarded = 0; cancelled = 0; left_open = 0; total = 0; longest = 0; over = 0 }
+
+-- A refusal, and its numbers: its own, and 0 for each figure.
+pub record Refuses (b times : List ℕ) (e : Refusal) : Type 0 where
+  pub refused : Tabled b times (Err e)
+  pub told : figure_numbers (Err e) ≡ number_of e ∷ 0 ∷ 0 ∷ 0 ∷ 0 ∷ 0 ∷ 0 ∷ 0 ∷ []
 
 -- What is said of a case.
 abbrev pub Right : Case → Type 0
-Right (refuses b times n) = Tabled b times (refusal n)
-Right (tables b times calls f) = Tabled b times f
+Right (refuses b times e) = Refuses b times e
+Right (tables b times calls f) = Tabled b times (Ok f)
 
 -- The figures with these calls after the first ones, of which f are the figures.
 abbrev after : Figures → List Became → Figures
@@ -86,21 +95,22 @@ same_figures f g =
 -- The test of a case. Whoever unfolds it unfolds all that it computes with.
 unfoldable right_b : Case → Bool
 unfolding check_of u32_at list_among same each some inside_each inside_all ends_b open_b no_entry_b descend_b waits_of follow_b
-right_b (refuses b times n) = eqb (waits_of b times) n && ltb 0 n
-right_b (tables b times calls f) = eqb (waits_of b times) 0 && (follow_b (traffic b times) 0 calls && (eqb f.refusal 0 && same_b (after (no_figures 0) calls) f))
+right_b (refuses b times e) = eqb (waits_of b times) (number_of e) && ltb 0 (number_of e)
+right_b (tables b times calls f) = eqb (waits_of b times) 0 && (follow_b (traffic b times) 0 calls && same_b (after no_figures calls) f)
 
 -- A case that passes its test is right.
 right : (c : Case) → T (right_b c) → Right c
 unfolding right_b
-right (refuses b times n) t =
+right (refuses b times e) t =
+    let n : ℕ = number_of e in
     let f = passed (and_decides (eq_decides (waits_of b times) n) (lt_decides 0 n)) t in
-    untold (verdict_given (waits_table b times) n f.1 (subst (Verdict (waits_table b times)) f.0 (waits_agrees b times))) refl
+    record { refused = untold (verdict_given (waits_table b times) n f.1 (subst (Verdict (waits_table b times)) f.0 (waits_agrees b times))); told = refl }
 right (tables b times calls f) t =
-    let x = passed (and_decides (eq_decides (waits_of b times) 0) (and_decides (follow_decides (traffic b times) 0 calls) (and_decides (eq_decides f.refusal 0) (same_figures (after (no_figures 0) calls) f)))) t in
+    let x = passed (and_decides (eq_decides (waits_of b times) 0) (and_decides (follow_decides (traffic b times) 0 calls) (same_figures (after no_figures calls) f))) t in
     let c : Clear (waits_table b times) = zero_clear (waits_table b times) (waits_rising b times) (waits_of b times) x.0 (waits_agrees b times) in
-    let y : Figured (traffic b times) (traffic b times).calls.count (after (no_figures 0) calls) = figured_after (traffic b times) (clear_sound b times c) 0 (no_figures 0) calls (figured_none (traffic b times)) x.1.0 in
-    let (a, (q, (r, (o, (s, (l, m)))))) = x.1.1.1 in
-    told c (subst (Figured (traffic b times) (traffic b times).calls.count) (figures_same (y.refusal ∙ sym x.1.1.0) a q r o s l m) y)
+    let y : Figured (traffic b times) (traffic b times).calls.count (after no_figures calls) = figured_after (traffic b times) (clear_sound b times c) 0 no_figures calls (figured_none (traffic b times)) x.1.0 in
+    let (a, (q, (r, (o, (s, (l, m)))))) = x.1.1 in
+    told c (subst (Figured (traffic b times) (traffic b times).calls.count) (figures_same a q r o s l m) y)
 
 -- A table every case of which passes is right. Each is a fact of its own, so that one which fails is named.
 all_right : (cs : List Case) → Every (λ c. T (right_b c)) cs → Every Right cs
@@ -135,35 +145,35 @@ unfoldable pub waiting : List Case
 unfolding small_day bytes
 waiting =
     tables small_day exact (by cancel 0 7 ∷ by cancel 1 11 ∷ by board 0 0 ∷ by board 1 40 ∷ neither ∷ [])
-    (record { refusal = 0; calls = 5; boarded = 2; cancelled = 2; left_open = 1; total = 58; longest = 40; over = 4 })
+    (record { calls = 5; boarded = 2; cancelled = 2; left_open = 1; total = 58; longest = 40; over = 4 })
     ∷
     tables small_day (exact ++ 4_294_967_295 ∷ []) (by cancel 0 7 ∷ by cancel 1 11 ∷ by board 0 0 ∷ by board 1 40 ∷ neither ∷ [])
-    (record { refusal = 0; calls = 5; boarded = 2; cancelled = 2; left_open = 1; total = 58; longest = 40; over = 4 })
+    (record { calls = 5; boarded = 2; cancelled = 2; left_open = 1; total = 58; longest = 40; over = 4 })
     ∷
-    refuses small_day start 20
+    refuses small_day start NoEntry
     ∷
-    refuses small_day [] 20
+    refuses small_day [] NoEntry
     ∷
-    refuses small_day (start ++ 101 ∷ []) 21
+    refuses small_day (start ++ 101 ∷ []) TimesDescend
     ∷
-    refuses small_day (exact ++ 0 ∷ []) 21
+    refuses small_day (exact ++ 0 ∷ []) TimesDescend
     ∷
-    refuses small_day (1 ∷ 0 ∷ []) 20
+    refuses small_day (1 ∷ 0 ∷ []) NoEntry
     ∷
-    refuses [] (1 ∷ 0 ∷ []) 1
+    refuses [] (1 ∷ 0 ∷ []) TooShort
     ∷
-    tables (head 0) [] [] (refusal 0)
+    tables (head 0) [] [] nobody
     ∷
-    refuses (head 0) (1 ∷ 0 ∷ []) 21
+    refuses (head 0) (1 ∷ 0 ∷ []) TimesDescend
     ∷
-    tables only_calls (5 ∷ 5 ∷ 6 ∷ []) (neither ∷ []) (record { refusal = 0; calls = 1; boarded = 0; cancelled = 0; left_open = 1; total = 0; longest = 0; over = 0 })
+    tables only_calls (5 ∷ 5 ∷ 6 ∷ []) (neither ∷ []) (record { calls = 1; boarded = 0; cancelled = 0; left_open = 1; total = 0; longest = 0; over = 0 })
     ∷
-    refuses late_door (0 ∷ 0 ∷ 0 ∷ 0 ∷ []) 20
+    refuses late_door (0 ∷ 0 ∷ 0 ∷ 0 ∷ []) NoEntry
     ∷
-    tables nest tens (by board 0 30 ∷ by board 0 10 ∷ neither ∷ []) (record { refusal = 0; calls = 3; boarded = 2; cancelled = 0; left_open = 1; total = 40; longest = 30; over = 2 })
+    tables nest tens (by board 0 30 ∷ by board 0 10 ∷ neither ∷ []) (record { calls = 3; boarded = 2; cancelled = 0; left_open = 1; total = 40; longest = 30; over = 2 })
     ∷
     tables patient (0 ∷ 4_294_967_295 ∷ 4_294_967_295 ∷ 4_294_967_295 ∷ []) (by cancel 0 4_294_967_295 ∷ [])
-    (record { refusal = 0; calls = 1; boarded = 0; cancelled = 1; left_open = 0; total = 4_294_967_295; longest = 4_294_967_295; over = 1 })
+    (record { calls = 1; boarded = 0; cancelled = 1; left_open = 0; total = 4_294_967_295; longest = 4_294_967_295; over = 1 })
     ∷
     []
 

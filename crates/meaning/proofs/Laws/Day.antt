@@ -7,8 +7,7 @@ use mathlib.Core.Logic.{◌⊎◌, inl, inr, ◌≢◌, ⊎_elim}
 use mathlib.Core.List.{List}
 use Rattle.meaning.specs.declared.Label.{Label}
 use Rattle.meaning.specs.declared.Body.{Body}
-use Rattle.meaning.specs.declared.Found.{Found}
-use Rattle.meaning.specs.declared.Found.TheVariants.{Known, Unknown}
+use Rattle.std.specs.Prelude.{Option, Some, None}
 use Rattle.meaning.specs.Limits.{most_tags}
 use Rattle.meaning.specs.Labels.{Inside, Apart, Place, label_of, Holds, LawfulLists}
 use Rattle.meaning.specs.Day.{tags, count, labels, total, label_at, lists_of, row_list, Finds, list_of, TooShort, OtherVersion, WrongContents, WrongLength}
@@ -29,9 +28,9 @@ OfRow b m l = ((r : ℕ) × (r < m) × (l ≡ row_list b r)) ⊎ (l.count ≡ 0)
 pub list_of_row : (b n : List ℕ) → OfRow b (tags b) (list_of b n)
 list_of_row b n = go (list_found b n)
   where
-    go : (f : Found) × Finds b n f × (list_of b n ≡ list_in f) → OfRow b (tags b) (list_of b n)
-    go (Known l, (r, has, e), q) = inl (r, has.0, q ∙ e)
-    go (Unknown, no_row, q) = inr (ap (λ (l : Body). l.count) q)
+    go : (f : Option Body) × Finds b n f × (list_of b n ≡ list_in f) → OfRow b (tags b) (list_of b n)
+    go (Some l, (r, has, e), q) = inl (r, has.0, q ∙ e)
+    go (None, no_row, q) = inr (ap (λ (l : Body). l.count) q)
 
 count_within : (b : List ℕ) (m r : ℕ) → r < m → count b r ≤ labels b m
 unfolding labels

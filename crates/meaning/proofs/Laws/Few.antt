@@ -5,13 +5,16 @@ use mathlib.Core.Path.{ap, ◌≡◌, refl}
 use mathlib.Core.Logic.{inl, inr, ◌≢◌, ⊎_elim}
 use mathlib.Core.List.{List, [], ◌∷◌}
 use lib.ListN.{length}
+use Rattle.std.specs.Prelude.{Option, Some, None, Result}
 use Rattle.meaning.specs.declared.Page.{Page}
+use Rattle.meaning.specs.declared.refusal.Refusal.{Refusal}
+use Rattle.meaning.specs.Numbers.{page_of}
 use Rattle.meaning.specs.declared.Body.{Body}
 use Rattle.meaning.specs.Limits.{most_labels, most_steps}
 use Rattle.meaning.specs.Day.{total}
 use Rattle.meaning.specs.Notation.{Path, Follows, steps}
 use Rattle.meaning.specs.Picks.{Asked, Returned, asked, step_at}
-use Rattle.meaning.specs.Pages.{In, Records, no_step, here, nowhere, FirstUnknown}
+use Rattle.meaning.specs.Pages.{In, Records, here, nowhere, FirstUnknown}
 use Rattle.meaning.specs.Refusals.{end, row, followed, Clear, Lawful, check_table, question_table, call_table}
 use Rattle.meaning.specs.Promises.{Outcome, refused, page}
 use Rattle.meaning.specs.Fit.{Fit}
@@ -48,18 +51,18 @@ few_records {b} {text} law f place all rec =
     omega (arith, ascending_few all 0 (a.count a.returned) rec.ascending low, asked_small b f.tree a.returned, lawful_small b law)
 
 -- Where a step's name is unknown there are no records, from whatever place on.
-pub unknown_empty : (b : List ℕ) (p : Path) (s place : ℕ) (all : List ℕ) → FirstUnknown b p s → s ≢ no_step → Records (asked b p) place all → all ≡ []
+pub unknown_empty : (b : List ℕ) (p : Path) (s : Option ℕ) (place : ℕ) (all : List ℕ) → FirstUnknown b p s → s ≢ None → Records (asked b p) place all → all ≡ []
 unfolding asked
 unknown_empty b p s place [] u some rec = refl
-unknown_empty b p s place (i ∷ is) (nowhere none) some rec = absurd (some refl)
-unknown_empty b p s place (i ∷ is) (here l no_row before) some rec =
+unknown_empty b p None place (i ∷ is) (nowhere none) some rec = absurd (some refl)
+unknown_empty b p (Some s) place (i ∷ is) (here l no_row before) some rec =
     let (q, pick, e) = (rec.each i (inl refl)).0 in
     absurd (omega (arith, pick.within s l, ap (λ (z : Body). z.count) (unknown_list b (step_at p s).name no_row)))
 
 -- A call writes at most 1,048,576 rows.
-pub few_rows : {Row : Asked → ℕ → List ℕ → Type 0} {room : Asked → ℕ → ℕ} {b text entry exit : List ℕ} {place : ℕ} {r : Page}
-    → Outcome (call_table b text) Row room b text place entry exit r → r.rows ≤ most_labels
-few_rows (refused g x) = omega (arith, x.rows)
+pub few_rows : {Row : Asked → ℕ → List ℕ → Type 0} {room : Asked → ℕ → ℕ} {b text entry exit : List ℕ} {place : ℕ} {r : Result Page Refusal}
+    → Outcome (call_table b text) Row room b text place entry exit r → (page_of r).rows ≤ most_labels
+few_rows (refused {r = r} g x) = omega (arith, ap (λ (q : Result Page Refusal). (page_of q).rows) x.refusal)
 few_rows {b = b} {text = text} (page c f p u) = omega (arith, p.rows, few_records (clear_first (check_table b) (question_table text) c) f _ p.all p.records)
 
 -- More than 1,048,576 records are returned.
@@ -71,7 +74,7 @@ never_many b text c (f, all, rec, many) = omega (arith, many, few_records (clear
 
 -- A row for that, behind all others and by whatever number, would change nothing: a call keeps the promise with it exactly if it keeps it
 -- without.
-module _ (b text : List ℕ) (n : ℕ) {Row : Asked → ℕ → List ℕ → Type 0} {room : Asked → ℕ → ℕ} {entry exit : List ℕ} {place : ℕ} {r : Page} where
+module _ (b text : List ℕ) (n : ℕ) {Row : Asked → ℕ → List ℕ → Type 0} {room : Asked → ℕ → ℕ} {entry exit : List ℕ} {place : ℕ} {r : Result Page Refusal} where
   pub many_left_out : Outcome (followed (call_table b text) (row n (Many b text) end)) Row room b text place entry exit r → Outcome (call_table b text) Row room b text place entry exit r
   many_left_out = kept_without (call_table b text) end n (Many b text) (never_many b text)
 

@@ -7,8 +7,7 @@ use mathlib.Core.Logic.{◌⊎◌, inl, inr, ⊎_elim}
 use mathlib.Core.Bool.{Bool, true, false, cond}
 use mathlib.Core.List.{List}
 use Rattle.meaning.specs.declared.Body.{Body}
-use Rattle.meaning.specs.declared.Found.{Found}
-use Rattle.meaning.specs.declared.Found.TheVariants.{Known, Unknown}
+use Rattle.std.specs.Prelude.{Option, Some, None}
 use Rattle.meaning.specs.Answers.{Decides, holds, fails}
 use Rattle.meaning.specs.Names.{filled, Sooner, same}
 use Rattle.meaning.specs.Day.{tags, name_field, row_list, Has, Finds, list_among, list_of}
@@ -44,20 +43,20 @@ module _ (b : List ℕ) (law : Lawful b) where
   same_row n q r hq hr = one_row q r (omega (arith, hq.0)) (omega (arith, hr.0)) (hq.1 ∙ sym hr.1)
 
   -- Looking up a name in a lawful day finds one thing.
-  pub found_one : (n : List ℕ) (f g : Found) → Finds b n f → Finds b n g → f ≡ g
-  found_one n (Known l) (Known m) (q, hq, d) (r, hr, e) = ap Known (cc (d, e, same_row n q r hq hr))
-  found_one n (Known l) Unknown (q, hq, d) no_row = absurd (no_row q hq)
-  found_one n Unknown (Known m) no_row (r, hr, e) = absurd (no_row r hr)
-  found_one n Unknown Unknown no_row none = refl
+  pub found_one : (n : List ℕ) (f g : Option Body) → Finds b n f → Finds b n g → f ≡ g
+  found_one n (Some l) (Some m) (q, hq, d) (r, hr, e) = ap Some (cc (d, e, same_row n q r hq hr))
+  found_one n (Some l) None (q, hq, d) no_row = absurd (no_row q hq)
+  found_one n None (Some m) no_row (r, hr, e) = absurd (no_row r hr)
+  found_one n None None no_row none = refl
 
 -- The list that is found: an unknown name's has no labels.
-abbrev pub list_in : Found → Body
-list_in (Known l) = l
-list_in Unknown = record { offset = 0; count = 0 }
+abbrev pub list_in : Option Body → Body
+list_in (Some l) = l
+list_in None = record { offset = 0; count = 0 }
 
 -- A list is that of one of the first m rows that has the name, or none of them has it and the list has no labels.
 abbrev Among : List ℕ → List ℕ → ℕ → Body → Type 0
-Among b n m l = ((r : ℕ) × (r < m) × (name_field b r ≡ filled n) × (l ≡ row_list b r)) ⊎ (((r : ℕ) → r < m → name_field b r ≡ filled n → ⊥) × (l ≡ list_in Unknown))
+Among b n m l = ((r : ℕ) × (r < m) × (name_field b r ≡ filled n) × (l ≡ row_list b r)) ⊎ (((r : ℕ) → r < m → name_field b r ≡ filled n → ⊥) × (l ≡ list_in None))
 
 -- So is the list of the name among these rows.
 among : (b n : List ℕ) (m : ℕ) → Among b n m (list_among b n m)
@@ -72,40 +71,40 @@ among b n (suc m) = go (same (name_field b m) (filled n)) (same_decides (name_fi
         inr (λ r l e. ⊎_elim (λ i. d (subst (λ (k : ℕ). name_field b k ≡ filled n) i e)) (λ k. before r k e) (eq-or-lt_of_le (le_of_suc-le-suc l)), q)
 
 -- Looking up a name finds something, and the name's list is what is found.
-pub list_found : (b n : List ℕ) → (f : Found) × Finds b n f × (list_of b n ≡ list_in f)
-list_found b n = ⊎_elim (λ h. (Known (row_list b h.0), (h.0, (omega (arith, h.1), h.2), refl), h.3)) (λ h. (Unknown, λ r has. h.0 r (omega (arith, has.0)) has.1, h.1)) (among b n (tags b))
+pub list_found : (b n : List ℕ) → (f : Option Body) × Finds b n f × (list_of b n ≡ list_in f)
+list_found b n = ⊎_elim (λ h. (Some (row_list b h.0), (h.0, (omega (arith, h.1), h.2), refl), h.3)) (λ h. (None, λ r has. h.0 r (omega (arith, has.0)) has.1, h.1)) (among b n (tags b))
 
 -- On a lawful day a known list is the name's.
-pub known_list : (b : List ℕ) → Lawful b → (n : List ℕ) (l : Body) → Finds b n (Known l) → l ≡ list_of b n
-known_list b law n l finds = let (f, g, q) = list_found b n in ap list_in (found_one b law n (Known l) f finds g) ∙ sym q
+pub known_list : (b : List ℕ) → Lawful b → (n : List ℕ) (l : Body) → Finds b n (Some l) → l ≡ list_of b n
+known_list b law n l finds = let (f, g, q) = list_found b n in ap list_in (found_one b law n (Some l) f finds g) ∙ sym q
 
 -- An unknown name's list has no labels.
-pub unknown_list : (b n : List ℕ) → Finds b n Unknown → list_of b n ≡ list_in Unknown
+pub unknown_list : (b n : List ℕ) → Finds b n None → list_of b n ≡ list_in None
 unknown_list b n no_row = go (list_found b n)
   where
-    go : (f : Found) × Finds b n f × (list_of b n ≡ list_in f) → list_of b n ≡ list_in Unknown
-    go (Known l, (r, has, e), q) = absurd (no_row r has)
-    go (Unknown, also, q) = q
+    go : (f : Option Body) × Finds b n f × (list_of b n ≡ list_in f) → list_of b n ≡ list_in None
+    go (Some l, (r, has, e), q) = absurd (no_row r has)
+    go (None, also, q) = q
 
 -- The first such step is one.
-pub first_one : {Such : ℕ → Type 0} {many m n : ℕ} → First Such many m → First Such many n → m ≡ n
+pub first_one : {Such : ℕ → Type 0} {many : ℕ} {m n : Option ℕ} → First Such many m → First Such many n → m ≡ n
 first_one (here {s = s} l h before) (here {s = t} k g sooner) =
-    ⊎_elim (λ j. absurd (sooner s j h)) (λ i. ⊎_elim (λ j. absurd (before t j g)) (λ j. omega arith) (or_not (lt_decides t s))) (or_not (lt_decides s t))
+    ap Some (⊎_elim (λ j. absurd (sooner s j h)) (λ i. ⊎_elim (λ j. absurd (before t j g)) (λ j. omega arith) (or_not (lt_decides t s))) (or_not (lt_decides s t)))
 first_one (here {s = s} l h before) (nowhere none) = absurd (none s l h)
 first_one (nowhere none) (here {s = t} k g sooner) = absurd (none t k g)
 first_one (nowhere none) (nowhere also) = refl
 
 -- Of the first steps and one more: the first such step stays where there was one.
 module _ {Such : ℕ → Type 0} {s : ℕ} (k : ℕ) (more : k ≡ s + 1) where
-  pub first_kept : {u : ℕ} → First Such s u → (j : ℕ) × (j < s) × Such j → First Such k u
-  first_kept {u} (here l h before) some = here {s = u} (omega arith) h before
+  pub first_kept : {u : Option ℕ} → First Such s u → (j : ℕ) × (j < s) × Such j → First Such k u
+  first_kept (here {s = u} l h before) some = here {s = u} (omega arith) h before
   first_kept (nowhere none) some = absurd (none some.0 some.1 some.2)
 
   -- Where there was none, it is the step more if that is such a step,
-  pub first_new : ((j : ℕ) → j < s → Such j → ⊥) → Such s → First Such k s
+  pub first_new : ((j : ℕ) → j < s → Such j → ⊥) → Such s → First Such k (Some s)
   first_new none such = here {s = s} (omega arith) such none
 
   -- and else all stays as it was.
-  pub first_on : {u : ℕ} → First Such s u → (Such s → ⊥) → First Such k u
-  first_on {u} (here l h before) not = here {s = u} (omega arith) h before
+  pub first_on : {u : Option ℕ} → First Such s u → (Such s → ⊥) → First Such k u
+  first_on (here {s = u} l h before) not = here {s = u} (omega arith) h before
   first_on (nowhere none) not = nowhere (λ j l h. ⊎_elim (λ i. none j i h) (λ n. let e : j ≡ s = omega arith in not (subst Such e h)) (or_not (lt_decides j s)))

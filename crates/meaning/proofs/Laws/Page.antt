@@ -7,7 +7,10 @@ use mathlib.Core.Bool.{Bool, true, false}
 use mathlib.Core.List.{List, [], ◌∷◌, ◌++◌}
 use lib.ListN.{length, take, drop, get_or}
 use borrow.Author.Tests.{ltb-true}
+use Rattle.std.specs.Prelude.{Result, Err}
 use Rattle.meaning.specs.declared.Page.{Page}
+use Rattle.meaning.specs.declared.refusal.Refusal.{Refusal}
+use Rattle.meaning.specs.Numbers.{number_of, numbers}
 use Rattle.meaning.specs.Picks.{Asked}
 use Rattle.meaning.specs.Pages.{Ascending, In, Rows, none, row, Paged, Refused}
 use Rattle.meaning.proofs.Laws.Record.{records_one, holds_at}
@@ -21,14 +24,14 @@ pub rows_one : {Row : ℕ → List ℕ → Type 0} {is vs ws : List ℕ} → One
 rows_one one none none = refl
 rows_one one (row {i = i} {w = v} x p) (row {w = w} y q) = ap₂ ◌++◌ (one i v w x y) (rows_one one p q)
 
--- Results with equal fields are equal.
-pub page_≡ : (r r' : Page) → r.refusal ≡ r'.refusal → r.rows ≡ r'.rows → r.more ≡ r'.more → r.next ≡ r'.next → r.unknown ≡ r'.unknown → r ≡ r'
-page_≡ r r' a b c d e = λ i. record { refusal = a i; rows = b i; more = c i; next = d i; unknown = e i }
+-- Pages with equal fields are equal.
+pub page_≡ : (r r' : Page) → r.rows ≡ r'.rows → r.more ≡ r'.more → r.next ≡ r'.next → r.unknown ≡ r'.unknown → r ≡ r'
+page_≡ r r' b c d e = λ i. record { rows = b i; more = c i; next = d i; unknown = e i }
 
 -- A page fixes the whole buffer, and its result where the unknown step is fixed.
 pub paged_fixed : {a : Asked} {Row : ℕ → List ℕ → Type 0} {place room : ℕ} {entry exit exit' : List ℕ} {r r' : Page} → One Row → r.unknown ≡ r'.unknown
     → Paged a Row place room entry exit r → Paged a Row place room entry exit' r' → (r ≡ r') × (exit ≡ exit')
-paged_fixed {a} {Row} {place} {room} {entry} {exit} {exit'} {r} {r'} one unknown p q = (page_≡ r r' (p.refusal ∙ sym q.refusal) rows more next unknown, buffer)
+paged_fixed {a} {Row} {place} {room} {entry} {exit} {exit'} {r} {r'} one unknown p q = (page_≡ r r' rows more next unknown, buffer)
   where
     all : p.all ≡ q.all
     all = records_one a place p.all q.all p.records q.records
@@ -48,18 +51,17 @@ paged_fixed {a} {Row} {place} {room} {entry} {exit} {exit'} {r} {r'} one unknown
     buffer : exit ≡ exit'
     buffer = p.buffer ∙ ap (λ (ws : List ℕ). ws ++ drop (length ws) entry) written ∙ sym q.buffer
 
--- The result of a refusal, in every field: its number, 0 rows, no further record, next place 0, unknown step 32.
-abbrev pub refusal_of : ℕ → Page
-refusal_of n = record { refusal = n; rows = 0; more = false; next = 0; unknown = 32 }
+-- The numbers of a refusal: its own, 0 rows, no further record, next place 0, unknown step 32.
+pub refusal_told : (e : Refusal) → numbers (Err e) ≡ number_of e ∷ 0 ∷ 0 ∷ 0 ∷ 32 ∷ []
+refusal_told e = refl
 
--- With the buffer as it was, that is a refusal.
-pub refusal_is : (n : ℕ) (entry : List ℕ) → Refused n entry entry (refusal_of n)
-refusal_is n entry = record { buffer = refl; refusal = refl; rows = refl; more = refl; next = refl; unknown = refl }
+-- With the buffer as it was, an error is that refusal.
+pub refusal_is : (e : Refusal) (entry : List ℕ) → Refused e entry entry (Err e)
+refusal_is e entry = record { buffer = refl; refusal = refl }
 
 -- A refusal fixes its result and the whole buffer.
-pub refused_fixed : {n : ℕ} {entry exit exit' : List ℕ} {r r' : Page} → Refused n entry exit r → Refused n entry exit' r' → (r ≡ r') × (exit ≡ exit')
-refused_fixed {r = r} {r' = r'} x y =
-    (page_≡ r r' (x.refusal ∙ sym y.refusal) (x.rows ∙ sym y.rows) (x.more ∙ sym y.more) (x.next ∙ sym y.next) (x.unknown ∙ sym y.unknown), x.buffer ∙ sym y.buffer)
+pub refused_fixed : {e : Refusal} {entry exit exit' : List ℕ} {r r' : Result Page Refusal} → Refused e entry exit r → Refused e entry exit' r' → (r ≡ r') × (exit ≡ exit')
+refused_fixed x y = (x.refusal ∙ sym y.refusal, x.buffer ∙ sym y.buffer)
 
 -- What stands behind the first number of an ascending list is greater.
 later : (all : List ℕ) (n d place : ℕ) → Ascending all → ((i : ℕ) → In i all → place ≤ i) → 1 ≤ n → n < length all → place < get_or all n d

@@ -8,8 +8,7 @@ use mathlib.Core.List.{List}
 use lib.ListN.{length, drop, length-take}
 use Rattle.meaning.specs.declared.Label.{Label}
 use Rattle.meaning.specs.declared.Body.{Body}
-use Rattle.meaning.specs.declared.Found.{Found}
-use Rattle.meaning.specs.declared.Found.TheVariants.{Known, Unknown}
+use Rattle.std.specs.Prelude.{Option, Some, None}
 use Rattle.meaning.specs.Limits.{most_labels}
 use Rattle.meaning.specs.Bytes.{at}
 use Rattle.meaning.specs.Names.{filled}
@@ -70,10 +69,10 @@ module _ (b : List ℕ) (law : Lawful b) where
   body_apart n m differ i j il jl =
       subst₂ (λ (x y : Label). x.start ≢ y.start) (sym (of_list b n i il)) (sym (of_list b m j jl)) (go (list_found b n) (list_found b m))
     where
-      go : (f : Found) × Finds b n f × (list_of b n ≡ list_in f) → (g : Found) × Finds b m g × (list_of b m ≡ list_in g) → (at_list b (list_of b n) i).start ≢ (at_list b (list_of b m) j).start
-      go (Unknown, no_row, p) g = absurd (omega (arith, within_list b n i il, ap (λ (l : Body). l.count) p))
-      go (Known l, x, p) (Unknown, no_row, q) = absurd (omega (arith, within_list b m j jl, ap (λ (l : Body). l.count) q))
-      go (Known l, (r, has, e), p) (Known k, (s, hat, f), q) =
+      go : (f : Option Body) × Finds b n f × (list_of b n ≡ list_in f) → (g : Option Body) × Finds b m g × (list_of b m ≡ list_in g) → (at_list b (list_of b n) i).start ≢ (at_list b (list_of b m) j).start
+      go (None, no_row, p) g = absurd (omega (arith, within_list b n i il, ap (λ (l : Body). l.count) p))
+      go (Some l, x, p) (None, no_row, q) = absurd (omega (arith, within_list b m j jl, ap (λ (l : Body). l.count) q))
+      go (Some l, (r, has, e), p) (Some k, (s, hat, f), q) =
           subst₂ (λ (x y : Body). (at_list b x i).start ≢ (at_list b y j).start) (sym (p ∙ e)) (sym (q ∙ f))
           ((lawful_index b law).different (record { list = r; at = i }) (record { list = s; at = j })
           (record { list_lt = has.0; at_lt = subst (λ (l : Body). i < l.count) (p ∙ e) (within_list b n i il) })

@@ -9,10 +9,10 @@ use Rattle.meaning.specs.Fit.{Sound, one_ended, one_open}
 use Rattle.meaning.proofs.Laws.Sum.{OneEach, ones, sum_one, sum_kept, sum_more, longest_one, longest_kept, longest_more}
 
 -- Figures that are equal field by field are equal.
-pub figures_same : {f g : Figures} → f.refusal ≡ g.refusal → f.calls ≡ g.calls → f.boarded ≡ g.boarded → f.cancelled ≡ g.cancelled → f.left_open ≡ g.left_open
+pub figures_same : {f g : Figures} → f.calls ≡ g.calls → f.boarded ≡ g.boarded → f.cancelled ≡ g.cancelled → f.left_open ≡ g.left_open
     → f.total ≡ g.total → f.longest ≡ g.longest → f.over ≡ g.over → f ≡ g
-figures_same refusal calls boarded cancelled left total longest over =
-    λ k. record { refusal = refusal k; calls = calls k; boarded = boarded k; cancelled = cancelled k; left_open = left k; total = total k; longest = longest k; over = over k }
+figures_same calls boarded cancelled left total longest over =
+    λ k. record { calls = calls k; boarded = boarded k; cancelled = cancelled k; left_open = left k; total = total k; longest = longest k; over = over k }
 
 module _ (w : Traffic) where
   -- Records that end one call's wait start at one number.
@@ -26,13 +26,13 @@ module _ (w : Traffic) where
   -- The figures are one, field by field.
   pub figured_one : {n : ℕ} {f g : Figures} → Figured w n f → Figured w n g → f ≡ g
   figured_one x y =
-      figures_same (x.refusal ∙ sym y.refusal) (x.calls ∙ sym y.calls) (sum_one (ones (Ended w board)) x.boarded y.boarded) (sum_one (ones (Ended w cancel)) x.cancelled y.cancelled)
+      figures_same (x.calls ∙ sym y.calls) (sum_one (ones (Ended w board)) x.boarded y.boarded) (sum_one (ones (Ended w cancel)) x.cancelled y.cancelled)
       (sum_one (ones (Open w)) x.left_open y.left_open) (sum_one waited_one x.total y.total) (longest_one x.longest y.longest)
       (sum_one (ones (Closed w)) x.over y.over)
 
   -- The figures of no calls.
-  pub figured_none : Figured w 0 (no_figures 0)
-  figured_none = record { refusal = refl; calls = refl; boarded = none; cancelled = none; left_open = none; total = none; longest = nobody (λ k e l. absurd (omega arith)); over = none }
+  pub figured_none : Figured w 0 no_figures
+  figured_none = record { calls = refl; boarded = none; cancelled = none; left_open = none; total = none; longest = nobody (λ k e l. absurd (omega arith)); over = none }
 
   -- An open call is ended by no record.
   pub open_unended : {i : ℕ} → Open w i → (e : Ending) → Ended w e i → ⊥
@@ -47,7 +47,6 @@ module _ (w : Traffic) where
       -- One call more, which record j of an ending ends after a wait of d.
       pub figured_ended : (e : Ending) (j d : ℕ) → Ends w n e j → d ≡ wait_until w n e j → (k : ℕ) → k ≡ n + 1 → Figured w k (one_ended e d f)
       figured_ended e j d h wait k more = record {
-        refusal = x.refusal;
         calls = omega (arith, x.calls);
         boarded = counted board e refl x.boarded h;
         cancelled = counted cancel e refl x.cancelled h;
@@ -75,7 +74,6 @@ module _ (w : Traffic) where
       -- One call more, which is open.
       pub figured_open : Open w n → (k : ℕ) → k ≡ n + 1 → Figured w k (one_open f)
       figured_open o k more = record {
-        refusal = x.refusal;
         calls = omega (arith, x.calls);
         boarded = sum_kept k more refl (λ d z. open_unended o board z.0) x.boarded;
         cancelled = sum_kept k more refl (λ d z. open_unended o cancel z.0) x.cancelled;

@@ -27,33 +27,6 @@ figured_small x few total = record {
   total = omega arith;
 }
 
--- A wait between two numbers is the wait between those that they are equal to.
-pub wait_is : (times : List ℕ) (s u d : ℕ) → d ≡ at times u - at times s → (start until : ℕ) → s ≡ start → u ≡ until → d ≡ at times until - at times start
-wait_is times s u d e start until from to = e ∙ (λ k. at times (to k) - at times (from k))
-
--- A wait that is added leaves room for one more boarded call, and for one more cancelled call.
-pub waited_small : {f g : Figures} (d : ℕ) → Small f → g ≡ waited_for d f → (g.boarded ≤ most_labels) × (g.cancelled ≤ most_labels)
-waited_small d small is = (omega (arith, ap (λ (h : Figures). h.boarded) is, small.boarded), omega (arith, ap (λ (h : Figures). h.cancelled) is, small.cancelled))
-
--- The figures with a wait added, and the call counted by what ended it, are what it adds.
-ended_is : (e : Ending) (f : Figures) (d : ℕ) (g h : Figures) → g ≡ waited_for d f → h.boarded ≡ g.boarded + of_ending 1 0 e → h.cancelled ≡ g.cancelled + of_ending 0 1 e
-    → h.refusal ≡ g.refusal → h.calls ≡ g.calls → h.left_open ≡ g.left_open → h.total ≡ g.total → h.longest ≡ g.longest → h.over ≡ g.over → h ≡ one_ended e d f
-ended_is e f d g h is boarded cancelled refusal calls left total longest over =
-    figures_same (refusal ∙ ap (λ (x : Figures). x.refusal) is) (calls ∙ ap (λ (x : Figures). x.calls) is) (boarded ∙ ap (λ (x : Figures). x.boarded + of_ending 1 0 e) is)
-    (cancelled ∙ ap (λ (x : Figures). x.cancelled + of_ending 0 1 e) is) (left ∙ ap (λ (x : Figures). x.left_open) is) (total ∙ ap (λ (x : Figures). x.total) is)
-    (longest ∙ ap (λ (x : Figures). x.longest) is) (over ∙ ap (λ (x : Figures). x.over) is)
-
--- So a call that an ending ends at the number u has added what it should, by its outcome o, and no more than a wait can be.
-pub ended_added : (times : List ℕ) (start : ℕ) (f : Figures) (o : Outcome) (e : Ending) (u : ℕ) → added (at times) start f o ≡ one_ended e (at times u - at times start) f
-    → (s v d : ℕ) → (d ≡ at times v - at times s) × (d ≤ 4_294_967_295) → s ≡ start → v ≡ u → (g h : Figures) → g ≡ waited_for d f
-    → h.boarded ≡ g.boarded + of_ending 1 0 e → h.cancelled ≡ g.cancelled + of_ending 0 1 e
-    → h.refusal ≡ g.refusal → h.calls ≡ g.calls → h.left_open ≡ g.left_open → h.total ≡ g.total → h.longest ≡ g.longest → h.over ≡ g.over
-    → (h ≡ added (at times) start f o) × (h.total ≤ f.total + 4_294_967_295)
-ended_added times start f o e u case s v d (long, most) from to g h is boarded cancelled refusal calls left total longest over = (
-  ended_is e f d g h is boarded cancelled refusal calls left total longest over ∙ ap (λ (x : ℕ). one_ended e x f) (wait_is times s v d long start u from to) ∙ sym case,
-  omega (arith, total, ap (λ (x : Figures). x.total) is, most),
-)
-
 module _ (calls boards cancels times : List ℕ) (sound : Sound (traffic_of calls boards cancels times) (length times)) (i : ℕ) where
   abbrev w : Traffic
   w = traffic_of calls boards cancels times

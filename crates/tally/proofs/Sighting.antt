@@ -5,6 +5,7 @@ use mathlib.Core.Path.{◌≡◌}
 use mathlib.Core.Logic.{◌⊎◌, inl, inr, ⊎_elim}
 use mathlib.Core.List.{List}
 use lib.ListN.{length}
+use Rattle.std.specs.Prelude.{Some, None}
 use Rattle.meaning.specs.declared.Label.{Label}
 use Rattle.meaning.specs.Labels.{Inside}
 use Rattle.meaning.specs.Day.{label_at}
@@ -26,12 +27,15 @@ module _ (body : List ℕ) (c : Label) (p : ℕ) (ascends : Ascends body 0 (leng
   from_place : (k : ℕ) → k < length body / 8 → Inside (label_at body 0 k) c → (label_at body 0 p).start ≤ (label_at body 0 k).start
   from_place k l h = no_later (label_at body 0) (length body / 8) ascends p k (behind k h) l
 
-  -- The list ends there, or its next record starts no sooner than the call ends: then none lies inside.
-  pub sees_nothing : (s : ℕ) → (length body / 8 ≤ p) ⊎ (c.end ≤ (label_at body 0 p).start) → s ≡ c.end → FirstStart (in_body body) c s
-  sees_nothing s (inl e) is = nothing (λ k l h. omega (arith, behind k h)) is
-  sees_nothing s (inr e) is = nothing (λ k l h. omega (arith, from_place k l h, whole.ordered k l, h.before)) is
+  -- The list ends there: then none lies inside.
+  pub sees_end : length body / 8 ≤ p → FirstStart (in_body body) c None
+  sees_end e = nothing (λ k l h. omega (arith, behind k h))
+
+  -- Its next record starts no sooner than the call ends: then none lies inside either.
+  pub sees_later : c.end ≤ (label_at body 0 p).start → FirstStart (in_body body) c None
+  sees_later e = nothing (λ k l h. omega (arith, from_place k l h, whole.ordered k l, h.before))
 
   -- Its next record starts before the call ends: then it lies inside.
-  pub sees_first : (s : ℕ) → p < length body / 8 → s < c.end → s ≡ (label_at body 0 p).start → FirstStart (in_body body) c s
+  pub sees_first : (s : ℕ) → p < length body / 8 → s < c.end → s ≡ (label_at body 0 p).start → FirstStart (in_body body) c (Some s)
   sees_first s l before is =
-      first p l (whole.inside p l (started.rest p (omega arith) l) (omega arith)) is before (λ k kl h. omega (arith, from_place k kl h))
+      first p l (whole.inside p l (started.rest p (omega arith) l) (omega arith)) is (λ k kl h. omega (arith, from_place k kl h))

@@ -75,14 +75,14 @@ module _ (calls boards cancels times : List ℕ) (sound : Sound (traffic_of call
     module _ (c : Label) (is : c ≡ w.calls.label i) (b d : Sight) (sees_b : Sees boards c b) (sees_d : Sees cancels c d) (r : Outcome) (decided : Decided b.start d.start r) where
       -- What becomes of the call.
       became : Becomes w i r
-      became = becomes w i sound b.start d.start (subst (λ (x : Label). FirstStart (in_body boards) x b.start) is sees_b.first) (subst (λ (x : Label). FirstStart (in_body cancels) x d.start) is sees_d.first) r decided
+      became = becomes w i b.start d.start (subst (λ (x : Label). FirstStart (in_body boards) x b.start) is sees_b.first) (subst (λ (x : Label). FirstStart (in_body cancels) x d.start) is sees_d.first) r decided
 
       pub turning_timed : Timed times c.start r
       turning_timed = subst (λ (x : Label). Timed times x.start r) (sym is) (becomes_timed calls boards cancels times sound i r became)
 
       -- The call is added, and the next one's turn begins.
-      pub turning_on : (g : Figures) → (g ≡ added (at times) c.start f r) × (g.total ≤ f.total + 4_294_967_295) → (k : ℕ) → k ≡ i + 1 → Turning calls boards cancels times g b.place d.place k
-      turning_on g (e, more-total) k more = record {
+      pub turning_on : (g : Figures) → g ≡ added (at times) c.start f r → g.total ≤ f.total + 4_294_967_295 → (k : ℕ) → k ≡ i + 1 → Turning calls boards cancels times g b.place d.place k
+      turning_on g e more-total k more = record {
         within = omega arith;
         figured = subst (Figured w k) (sym (e ∙ ap (λ (x : Label). added (at times) x.start f r) is)) (figured_added calls boards cancels times sound i t.figured r became k more);
         total = omega (arith, t.total);

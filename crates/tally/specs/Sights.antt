@@ -1,5 +1,5 @@
 -- What is seen from a call: the first record of a body that lies inside it, and what becomes of the call.
-use Rattle.std.specs.Prelude.{ℕ, ◌/◌, ◌≤◌, ◌<◌, ◌≡◌, List, length}
+use Rattle.std.specs.Prelude.{ℕ, ◌/◌, ◌≤◌, ◌<◌, ◌≡◌, List, length, Option, Some, None, IfSome}
 use Rattle.meaning.specs.declared.Label.{Label}
 use Rattle.meaning.specs.Labels.{Inside}
 use Rattle.meaning.specs.Waits.{Tagged, board, cancel, Traffic, in_body, Ends, Open}
@@ -13,21 +13,21 @@ pub record Whole (t : Tagged) (c : Label) : Type 0 where
   pub ordered : (j : ℕ) → j < t.count → (t.label j).start < (t.label j).end
   pub inside : (j : ℕ) → j < t.count → c.start < (t.label j).start → (t.label j).start < c.end → Inside (t.label j) c
 
--- Where the first record that lies inside a call starts, or the call's end if there is none.
-pub data FirstStart (t : Tagged) (c : Label) (s : ℕ) : Type 0 where
-  first : (j : ℕ) → j < t.count → Inside (t.label j) c → s ≡ (t.label j).start → s < c.end → ((k : ℕ) → k < t.count → Inside (t.label k) c → s ≤ (t.label k).start) → FirstStart t c s
-  nothing : ((k : ℕ) → k < t.count → Inside (t.label k) c → ⊥) → s ≡ c.end → FirstStart t c s
+-- Where the first record that lies inside a call starts, if there is one.
+pub data FirstStart (t : Tagged) (c : Label) : Option ℕ → Type 0 where
+  first : {s : ℕ} (j : ℕ) → j < t.count → Inside (t.label j) c → s ≡ (t.label j).start → ((k : ℕ) → k < t.count → Inside (t.label k) c → s ≤ (t.label k).start) → FirstStart t c (Some s)
+  nothing : ((k : ℕ) → k < t.count → Inside (t.label k) c → ⊥) → FirstStart t c None
 
 -- What a look finds: how many records start at or before the call's start, and where the first inside it starts.
 pub record Sees (body : List ℕ) (c : Label) (r : Sight) : Type 0 where
   pub place : Started body 0 (length body / 8) c.start r.place
   pub first : FirstStart (in_body body) c r.start
 
--- What is decided by two numbers: the lesser ends the wait, and equal ones end none.
-abbrev pub Decided : ℕ → ℕ → Outcome → Type 0
-Decided b c (Boarded s) = (b < c) × (s ≡ b)
-Decided b c (Cancelled s) = (c < b) × (s ≡ c)
-Decided b c Neither = b ≡ c
+-- What two numbers decide, each of which may be missing: the lesser of those that are there ends the wait, and where there is none nothing does.
+abbrev pub Decided : Option ℕ → Option ℕ → Outcome → Type 0
+Decided b c (Boarded s) = (b ≡ Some s) × IfSome c (λ t. s ≤ t)
+Decided b c (Cancelled s) = (c ≡ Some s) × IfSome b (λ t. s ≤ t)
+Decided b c Neither = (b ≡ None) × (c ≡ None)
 
 -- What becomes of call i, case by case: a boarding or a cancellation that starts at the number ends its wait, or it is open.
 abbrev pub Becomes : Traffic → ℕ → Outcome → Type 0

@@ -2,12 +2,12 @@
 // cancellations move on only forward, and nothing is kept of a call but what it adds to the figures.
 #![tactic(auto)]
 
-ghost use Rattle.std.specs.Prelude.{◌≡◌, ◌+◌, ◌-◌, ◌/◌, ◌≤◌, ◌<◌, max, length};
+ghost use Rattle.std.specs.Prelude.{◌≡◌, ◌+◌, ◌-◌, ◌/◌, ◌≤◌, ◌<◌, length};
 ghost use Rattle.meaning.specs.Bytes.{at};
 ghost use Rattle.meaning.specs.Waits.{in_body, traffic_of, Figured};
 ghost use Rattle.meaning.specs.Fit.{Sound};
-ghost use Rattle.label.specs.Started.{Ascends, Between};
-ghost use Rattle.tally.specs.Sights.{Whole, Sees, Decided};
+ghost use Rattle.label.specs.Started.{Ascends, Between, Started};
+ghost use Rattle.tally.specs.Sights.{Whole, FirstStart, Sees, Decided};
 ghost use Rattle.tally.specs.Adding.{Small, WaitTimed, Timed, waited_for, added};
 
 use meaning::{Figures, Label};
@@ -17,8 +17,8 @@ use meaning::{Figures, Label};
 pub struct Sight {
     // The place of the first that starts after the call does.
     pub place: usize,
-    // Where the first that lies inside the call starts, or the call's end if there is none.
-    pub start: u32,
+    // Where the first that lies inside the call starts, if there is one.
+    pub start: Option<u32>,
 }
 
 // What becomes of a call, with the number at which its wait ends.
@@ -29,111 +29,97 @@ pub enum Outcome {
     Open,
 }
 
+// Where the first record of a body that lies inside a call starts, if there is one: only the first that starts after the call can be it.
+#[tactic(auto, using(crate::proofs::Sighting::sees_end, crate::proofs::Sighting::sees_later, crate::proofs::Sighting::sees_first))]
+fn first_inside(body: &[u8], place: usize, call: Label) -> Option<u32>
+    requires ascends { Ascends body.now 0 (length body.now / 8) }
+    requires started { Started body.now 0 (length body.now / 8) call.start place }
+    requires whole { Whole (in_body body.now) call }
+    ensures { FirstStart (in_body body.now) call result }
+{
+    if place < body.len() / Label::BYTES {
+        let start = label::start_at(body, 0, place);
+        if start < call.end {
+            return Some(start);
+        }
+    }
+    None
+}
+
 // Looks from a call at the records of a body, of which those before `from` start no later than the call.
 #[tactic(auto, using(crate::proofs::Sighting::moves_on))]
 fn look(body: &[u8], from: usize, call: Label) -> Sight
-    requires { Ascends body.now 0 (length body.now / 8) × Between body.now 0 (length body.now / 8) call.start from (length body.now / 8) × Whole (in_body body.now) call }
+    requires ascends { Ascends body.now 0 (length body.now / 8) }
+    requires passed { Between body.now 0 (length body.now / 8) call.start from (length body.now / 8) }
+    requires whole { Whole (in_body body.now) call }
     ensures { Sees body.now call result }
 {
-    let n = body.len() / Label::BYTES;
-    let place = label::started_from(body, 0, n, from, call.start);
-    if n <= place {
-        return Sight {
-            place: place,
-            start: call.end,
-        };
-    }
-    let start = label::start_at(body, 0, place);
-    if call.end <= start {
-        return Sight {
-            place: place,
-            start: call.end,
-        };
-    }
+    let place = label::started_from(body, 0, body.len() / Label::BYTES, from, call.start);
     Sight {
-        place: place,
-        start: start,
+        place,
+        start: first_inside(body, place, call),
     }
 }
 
-// What becomes of a call in which the first boarding and the first cancellation start at these numbers. Each is the call's end where there is
-// none, and else before it, so that they are equal only where there is neither.
-fn decide(board: u32, cancel: u32) -> Outcome
+// What becomes of a call in which the first boarding and the first cancellation start at these numbers, where there are such: the one that starts
+// first ends the wait. On a lawful day no two start at one number.
+fn decide(board: Option<u32>, cancel: Option<u32>) -> Outcome
     ensures { Decided board cancel result }
 {
-    if board < cancel {
-        return Outcome::Boarded(board);
+    match (board, cancel) {
+        (Some(board), Some(cancel)) if cancel < board => Outcome::Cancelled(cancel),
+        (Some(board), _) => Outcome::Boarded(board),
+        (None, Some(cancel)) => Outcome::Cancelled(cancel),
+        (None, None) => Outcome::Open,
     }
-    if cancel < board {
-        return Outcome::Cancelled(cancel);
-    }
-    Outcome::Open
 }
 
-// The longer of two waits.
-fn longer(one: u64, other: u64) -> u64
-    ensures { result ≡ max one other }
-{
-    if one < other {
-        return other;
-    }
-    one
-}
-
-// The time from one to another that is no sooner, in 64 bits.
-fn elapsed(from: u32, to: u32) -> u64
-    requires { from ≤ to }
-    ensures { (result ≡ to - from) × (result ≤ 4294967295) }
-{
-    (to - from) as u64
-}
-
-// The wait from a call's start to the number at which it ends.
+// The wait from a call's start to the number at which it ends, in 64 bits.
 fn wait(times: &[u32], start: u32, until: u32) -> u64
     requires { WaitTimed times.now start until }
-    ensures { (result ≡ at times.now until - at times.now start) × (result ≤ 4294967295) }
+    ensures value { result ≡ at times.now until - at times.now start }
+    ensures most { result ≤ 4294967295 }
 {
-    elapsed(times[start as usize], times[until as usize])
+    u64::from(times[until as usize] - times[start as usize])
 }
 
 // The figures with one call more that has waited: what a boarded call and a cancelled call add alike.
 fn waited(f: Figures, wait: u64) -> Figures
-    requires { Small f × (wait ≤ 4294967295) }
+    requires small { Small f }
+    requires most { wait ≤ 4294967295 }
     ensures { result ≡ waited_for wait f }
 {
     Figures {
-        refusal: f.refusal,
         calls: f.calls + 1,
-        boarded: f.boarded,
-        cancelled: f.cancelled,
-        left_open: f.left_open,
         total: f.total + wait,
-        longest: longer(f.longest, wait),
+        longest: f.longest.max(wait),
         over: f.over + 1,
+        ..f
     }
 }
 
 // The figures with one call more, which starts at a number and has an outcome.
 fn add(f: Figures, times: &[u32], start: u32, outcome: Outcome) -> Figures
-    requires { Small f × Timed times.now start outcome }
-    ensures { (result ≡ added (at times.now) start f outcome) × (result.total ≤ f.total + 4294967295) }
+    requires small { Small f }
+    requires timed { Timed times.now start outcome }
+    ensures value { result ≡ added (at times.now) start f outcome }
+    ensures most { result.total ≤ f.total + 4294967295 }
 {
-    let mut sum = f;
     match outcome {
-        Outcome::Boarded(board) => {
-            sum = waited(f, wait(times, start, board));
-            sum.boarded += 1;
-        }
-        Outcome::Cancelled(cancel) => {
-            sum = waited(f, wait(times, start, cancel));
-            sum.cancelled += 1;
-        }
-        Outcome::Open => {
-            sum.calls += 1;
-            sum.left_open += 1;
-        }
+        Outcome::Boarded(board) => Figures {
+            boarded: f.boarded + 1,
+            ..waited(f, wait(times, start, board))
+        },
+        Outcome::Cancelled(cancel) => Figures {
+            cancelled: f.cancelled + 1,
+            ..waited(f, wait(times, start, cancel))
+        },
+        Outcome::Open => Figures {
+            calls: f.calls + 1,
+            left_open: f.left_open + 1,
+            ..f
+        },
     }
-    sum
 }
 
 // The figures of all calls of a body.
@@ -145,8 +131,7 @@ pub fn tally(calls: &[u8], boards: &[u8], cancels: &[u8], times: &[u32]) -> Figu
     let mut figures = Figures::none(0);
     let mut board = 0;
     let mut cancel = 0;
-    let mut i = 0;
-    while i < n {
+    for i in 0..n {
         let call = label::label_at(calls, 0, i);
         let boarding = look(boards, board, call);
         let cancelling = look(cancels, cancel, call);
@@ -158,7 +143,6 @@ pub fn tally(calls: &[u8], boards: &[u8], cancels: &[u8], times: &[u32]) -> Figu
             call.start,
             decide(boarding.start, cancelling.start),
         );
-        i += 1;
     }
     figures
 }

@@ -7,32 +7,31 @@ use Rattle.tally.proofs.tally.Goals as goal
 pub loop-i-init : goal.loop-i-init
 loop-i-init c = turning_begin _ _ _ _ _ c.none-figures.ensures
 
-pub look-boarding-requires : goal.look-boarding-requires
-look-boarding-requires c =
-    let call = c.label_at-call in
-    let a = c.args in (
-      c.requires.ended_ascend board,
-      passed_between c.loop-i.invariant.boards_passed (omega arith) call.result call.ensures,
-      whole_of a.calls.now a.boards.now a.cancels.now a.times.now c.requires board c.loop-i.i (omega arith) call.result call.ensures,
-    )
+pub look-boarding-requires-clause-ascends : goal.look-boarding-requires-clause-ascends
+look-boarding-requires-clause-ascends c = c.requires.ended_ascend board
 
-pub look-cancelling-requires : goal.look-cancelling-requires
-look-cancelling-requires c =
-    let call = c.label_at-call in
-    let a = c.args in (
-      c.requires.ended_ascend cancel,
-      passed_between c.loop-i.invariant.cancels_passed (omega arith) call.result call.ensures,
-      whole_of a.calls.now a.boards.now a.cancels.now a.times.now c.requires cancel c.loop-i.i (omega arith) call.result call.ensures,
-    )
+pub look-boarding-requires-clause-whole : goal.look-boarding-requires-clause-whole
+look-boarding-requires-clause-whole c =
+    let a = c.args in
+    whole_of a.calls.now a.boards.now a.cancels.now a.times.now c.requires board c.loop-i.i (omega arith) c.label_at-call.result c.label_at-call.ensures
 
-pub add-figures-requires : goal.add-figures-requires
-add-figures-requires c =
-    let call = c.label_at-call in (
-      turning_small _ _ _ _ c.requires c.loop-i.invariant (omega arith),
-      turning_timed _ _ _ _ c.requires c.loop-i.invariant (omega arith) call.result call.ensures _ _ c.look-boarding.ensures c.look-cancelling.ensures c.decide.result c.decide.ensures,
-    )
+pub look-cancelling-requires-clause-ascends : goal.look-cancelling-requires-clause-ascends
+look-cancelling-requires-clause-ascends c = c.requires.ended_ascend cancel
+
+pub look-cancelling-requires-clause-whole : goal.look-cancelling-requires-clause-whole
+look-cancelling-requires-clause-whole c =
+    let a = c.args in
+    whole_of a.calls.now a.boards.now a.cancels.now a.times.now c.requires cancel c.loop-i.i (omega arith) c.label_at-call.result c.label_at-call.ensures
+
+pub add-figures-requires-clause-small : goal.add-figures-requires-clause-small
+add-figures-requires-clause-small c = turning_small _ _ _ _ c.requires c.loop-i.invariant (omega arith)
+
+pub add-figures-requires-clause-timed : goal.add-figures-requires-clause-timed
+add-figures-requires-clause-timed c =
+    let call = c.label_at-call in
+    turning_timed _ _ _ _ c.requires c.loop-i.invariant (omega arith) call.result call.ensures _ _ c.look-boarding.ensures c.look-cancelling.ensures c.decide.result c.decide.ensures
 
 pub loop-i-preserved : goal.loop-i-preserved
 loop-i-preserved c =
     let call = c.label_at-call in
-    turning_on _ _ _ _ c.requires c.loop-i.invariant (omega arith) call.result call.ensures _ _ c.look-boarding.ensures c.look-cancelling.ensures c.decide.result c.decide.ensures _ c.add-figures.ensures _ (omega arith)
+    turning_on _ _ _ _ c.requires c.loop-i.invariant (omega arith) call.result call.ensures _ _ c.look-boarding.ensures c.look-cancelling.ensures c.decide.result c.decide.ensures _ c.add-figures.ensures.value c.add-figures.ensures.most _ (omega arith)

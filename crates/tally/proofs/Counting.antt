@@ -1,20 +1,20 @@
 -- What one call more makes of the figures, by what becomes of it.
 use Prim.Native.Nat.{ℕ, ◌+◌, ◌*◌, ◌-◌, ◌≤◌}
 use native.Mathlib.Omega.{arith}
-use mathlib.Core.Path.{◌≡◌, sym, ap, ◌∙◌}
+use mathlib.Core.Path.{◌≡◌, ap}
 use mathlib.Core.List.{List}
 use lib.ListN.{length}
 use Rattle.meaning.specs.declared.Figures.{Figures}
 use Rattle.meaning.specs.Limits.{most_labels}
 use Rattle.meaning.specs.Bytes.{at}
-use Rattle.meaning.specs.Waits.{Ending, board, cancel, of_ending, Traffic, traffic_of, Ends, Figured}
-use Rattle.meaning.specs.Fit.{Sound, one_ended}
+use Rattle.meaning.specs.Waits.{Ending, board, cancel, Traffic, traffic_of, Ends, Figured}
+use Rattle.meaning.specs.Fit.{Sound}
 use Rattle.meaning.proofs.Laws.Sum.{number_within}
-use Rattle.meaning.proofs.Laws.Waits.{figures_same, figured_ended, figured_open}
+use Rattle.meaning.proofs.Laws.Waits.{figured_ended, figured_open}
 use Rattle.tally.specs.declared.Outcome.{Outcome}
 use Rattle.tally.specs.declared.Outcome.TheVariants.{Boarded, Cancelled, Open}
 use Rattle.tally.specs.Sights.{Becomes}
-use Rattle.tally.specs.Adding.{Small, WaitTimed, Timed, waited_for, added}
+use Rattle.tally.specs.Adding.{Small, WaitTimed, Timed, added}
 
 -- Figures of no more calls than a day can have are small.
 pub figured_small : {w : Traffic} {n : ℕ} {f : Figures} → Figured w n f → n ≤ most_labels → f.total ≤ n * 4_294_967_295 → Small f

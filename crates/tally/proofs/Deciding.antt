@@ -1,5 +1,5 @@
 -- What becomes of a call, from where the first boarding and the first cancellation inside it start.
-use Prim.Native.Nat.{ℕ, ◌≤◌, ◌<◌}
+use Prim.Native.Nat.{ℕ, ◌≤◌}
 use native.Mathlib.Omega.{arith}
 use mathlib.Core.Path.{◌≡◌, subst}
 use Rattle.std.specs.Prelude.{Option, Some, None, IfSome}

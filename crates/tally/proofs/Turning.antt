@@ -4,6 +4,7 @@ use native.Mathlib.Omega.{arith}
 use mathlib.Core.Path.{◌≡◌, sym, ap, subst, ◌∙◌}
 use mathlib.Core.List.{List}
 use lib.ListN.{length}
+use Rattle.std.specs.Prelude.{Option}
 use Rattle.meaning.specs.declared.Figures.{Figures}
 use Rattle.meaning.specs.declared.Label.{Label}
 use Rattle.meaning.specs.Bytes.{at}
@@ -12,8 +13,7 @@ use Rattle.meaning.specs.Fit.{Sound}
 use Rattle.meaning.proofs.Laws.Waits.{figured_none}
 use Rattle.label.specs.Started.{Between, Started}
 use Rattle.tally.specs.declared.Outcome.{Outcome}
-use Rattle.tally.specs.declared.Sight.{Sight}
-use Rattle.tally.specs.Sights.{Whole, FirstStart, Sees, Decided, Becomes}
+use Rattle.tally.specs.Sights.{Whole, FirstStart, Decided, Becomes}
 use Rattle.tally.specs.Adding.{Small, Timed, added}
 use Rattle.tally.proofs.Deciding.{becomes}
 use Rattle.tally.proofs.Counting.{figured_small, becomes_timed, figured_added}
@@ -72,20 +72,21 @@ module _ (calls boards cancels times : List ℕ) (sound : Sound (traffic_of call
     pub turning_small : Small f
     turning_small = figured_small t.figured (omega (arith, sound.few)) t.total
 
-    module _ (c : Label) (is : c ≡ w.calls.label i) (b d : Sight) (sees_b : Sees boards c b) (sees_d : Sees cancels c d) (r : Outcome) (decided : Decided b.start d.start r) where
+    module _ (c : Label) (is : c ≡ w.calls.label i) (b d : Option ℕ) (first_b : FirstStart (in_body boards) c b) (first_d : FirstStart (in_body cancels) c d) (r : Outcome) (decided : Decided b d r) where
       -- What becomes of the call.
       became : Becomes w i r
-      became = becomes w i b.start d.start (subst (λ (x : Label). FirstStart (in_body boards) x b.start) is sees_b.first) (subst (λ (x : Label). FirstStart (in_body cancels) x d.start) is sees_d.first) r decided
+      became = becomes w i b d (subst (λ (x : Label). FirstStart (in_body boards) x b) is first_b) (subst (λ (x : Label). FirstStart (in_body cancels) x d) is first_d) r decided
 
       pub turning_timed : Timed times c.start r
       turning_timed = subst (λ (x : Label). Timed times x.start r) (sym is) (becomes_timed calls boards cancels times sound i r became)
 
       -- The call is added, and the next one's turn begins.
-      pub turning_on : (g : Figures) → g ≡ added (at times) c.start f r → g.total ≤ f.total + 4_294_967_295 → (k : ℕ) → k ≡ i + 1 → Turning calls boards cancels times g b.place d.place k
-      turning_on g e more-total k more = record {
+      pub turning_on : (g : Figures) → g ≡ added (at times) c.start f r → g.total ≤ f.total + 4_294_967_295 → (x y : ℕ)
+          → Started boards 0 (length boards / 8) c.start x → Started cancels 0 (length cancels / 8) c.start y → (k : ℕ) → k ≡ i + 1 → Turning calls boards cancels times g x y k
+      turning_on g e more-total x y started_b started_d k more = record {
         within = omega arith;
-        figured = subst (Figured w k) (sym (e ∙ ap (λ (x : Label). added (at times) x.start f r) is)) (figured_added calls boards cancels times sound i t.figured r became k more);
+        figured = subst (Figured w k) (sym (e ∙ ap (λ (z : Label). added (at times) z.start f r) is)) (figured_added calls boards cancels times sound i t.figured r became k more);
         total = omega (arith, t.total);
-        boards_passed = passed_on boards i b.place c is sees_b.place k more;
-        cancels_passed = passed_on cancels i d.place c is sees_d.place k more;
+        boards_passed = passed_on boards i x c is started_b k more;
+        cancels_passed = passed_on cancels i y c is started_d k more;
       }

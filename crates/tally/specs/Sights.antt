@@ -1,10 +1,8 @@
 -- What is seen from a call: the first record of a body that lies inside it, and what becomes of the call.
-use Rattle.std.specs.Prelude.{ℕ, ◌/◌, ◌≤◌, ◌<◌, ◌≡◌, List, length, Option, Some, None, IfSome}
+use Rattle.std.specs.Prelude.{ℕ, ◌≤◌, ◌<◌, ◌≡◌, Option, Some, None, IfSome}
 use Rattle.meaning.specs.declared.Label.{Label}
 use Rattle.meaning.specs.Labels.{Inside}
-use Rattle.meaning.specs.Waits.{Tagged, board, cancel, Traffic, in_body, Ends, Open}
-use Rattle.label.specs.Started.{Started}
-use Rattle.tally.specs.declared.Sight.{Sight}
+use Rattle.meaning.specs.Waits.{Tagged, board, cancel, Traffic, Ends, Open}
 use Rattle.tally.specs.declared.Outcome.{Outcome}
 use Rattle.tally.specs.declared.Outcome.TheVariants.{Boarded, Cancelled, Open as Neither}
 
@@ -17,11 +15,6 @@ pub record Whole (t : Tagged) (c : Label) : Type 0 where
 pub data FirstStart (t : Tagged) (c : Label) : Option ℕ → Type 0 where
   first : {s : ℕ} (j : ℕ) → j < t.count → Inside (t.label j) c → s ≡ (t.label j).start → ((k : ℕ) → k < t.count → Inside (t.label k) c → s ≤ (t.label k).start) → FirstStart t c (Some s)
   nothing : ((k : ℕ) → k < t.count → Inside (t.label k) c → ⊥) → FirstStart t c None
-
--- What a look finds: how many records start at or before the call's start, and where the first inside it starts.
-pub record Sees (body : List ℕ) (c : Label) (r : Sight) : Type 0 where
-  pub place : Started body 0 (length body / 8) c.start r.place
-  pub first : FirstStart (in_body body) c r.start
 
 -- What two numbers decide, each of which may be missing: the lesser of those that are there ends the wait, and where there is none nothing does.
 abbrev pub Decided : Option ℕ → Option ℕ → Outcome → Type 0

@@ -7,18 +7,42 @@ ghost use Rattle.meaning.specs.Bytes.{at};
 ghost use Rattle.meaning.specs.Waits.{in_body, traffic_of, Figured};
 ghost use Rattle.meaning.specs.Fit.{Sound};
 ghost use Rattle.label.specs.Started.{Ascends, Between, Started};
-ghost use Rattle.tally.specs.Sights.{Whole, FirstStart, Sees, Decided};
+ghost use Rattle.tally.specs.Sights.{Whole, FirstStart, Decided};
 ghost use Rattle.tally.specs.Adding.{Small, WaitTimed, Timed, waited_for, added};
 
 use meaning::{Figures, Label};
 
-// What a look from a call finds among the records of a body.
+// The records of a body, which ascend by start, and how many of them start no later than the calls that were looked from so far.
 #[derive(Clone, Copy)]
-pub struct Sight {
-    // The place of the first that starts after the call does.
-    pub place: usize,
-    // Where the first that lies inside the call starts, if there is one.
-    pub start: Option<u32>,
+struct Records<'a> {
+    body: &'a [u8],
+    passed: usize,
+    ghost ascends: { Ascends body.now 0 (length body.now / 8) },
+}
+
+impl<'a> Records<'a> {
+    // The records of a body, none of them passed.
+    fn new(body: &'a [u8]) -> Records<'a>
+        requires { Ascends body.now 0 (length body.now / 8) }
+        ensures body { result.body ≡ body.entry }
+        ensures passed { result.passed ≡ 0 }
+    {
+        Records { body, passed: 0 }
+    }
+
+    // Moves on to the first record that starts after a call, and gives where the first that lies inside the call starts, if there is one.
+    #[tactic(auto, using(crate::proofs::Sighting::moves_on))]
+    fn look(&mut self, call: Label) -> Option<u32>
+        requires passed { Between self.old.body.now 0 (length self.old.body.now / 8) call.start self.old.passed (length self.old.body.now / 8) }
+        requires whole { Whole (in_body self.old.body.now) call }
+        ensures body { self.new.body ≡ self.old.body }
+        ensures passed { Started self.old.body.now 0 (length self.old.body.now / 8) call.start self.new.passed }
+        ensures first { FirstStart (in_body self.old.body.now) call result }
+    {
+        let n = self.body.len() / Label::BYTES;
+        self.passed = label::started_from(self.body, 0, n, self.passed, call.start);
+        first_inside(self.body, self.passed, call)
+    }
 }
 
 // What becomes of a call, with the number at which its wait ends.
@@ -44,21 +68,6 @@ fn first_inside(body: &[u8], place: usize, call: Label) -> Option<u32>
         }
     }
     None
-}
-
-// Looks from a call at the records of a body, of which those before `from` start no later than the call.
-#[tactic(auto, using(crate::proofs::Sighting::moves_on))]
-fn look(body: &[u8], from: usize, call: Label) -> Sight
-    requires ascends { Ascends body.now 0 (length body.now / 8) }
-    requires passed { Between body.now 0 (length body.now / 8) call.start from (length body.now / 8) }
-    requires whole { Whole (in_body body.now) call }
-    ensures { Sees body.now call result }
-{
-    let place = label::started_from(body, 0, body.len() / Label::BYTES, from, call.start);
-    Sight {
-        place,
-        start: first_inside(body, place, call),
-    }
 }
 
 // What becomes of a call in which the first boarding and the first cancellation start at these numbers, where there are such: the one that starts
@@ -127,22 +136,14 @@ pub fn tally(calls: &[u8], boards: &[u8], cancels: &[u8], times: &[u32]) -> Figu
     requires { Sound (traffic_of calls.now boards.now cancels.now times.now) (length times.now) }
     ensures { Figured (traffic_of calls.now boards.now cancels.now times.now) (length calls.now / 8) result }
 {
-    let n = calls.len() / Label::BYTES;
     let mut figures = Figures::none(0);
-    let mut board = 0;
-    let mut cancel = 0;
-    for i in 0..n {
+    let mut boardings = Records::new(boards);
+    let mut cancellations = Records::new(cancels);
+    for i in 0..calls.len() / Label::BYTES {
         let call = label::label_at(calls, 0, i);
-        let boarding = look(boards, board, call);
-        let cancelling = look(cancels, cancel, call);
-        board = boarding.place;
-        cancel = cancelling.place;
-        figures = add(
-            figures,
-            times,
-            call.start,
-            decide(boarding.start, cancelling.start),
-        );
+        let board = boardings.look(call);
+        let cancel = cancellations.look(call);
+        figures = add(figures, times, call.start, decide(board, cancel));
     }
     figures
 }

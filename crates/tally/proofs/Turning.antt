@@ -34,7 +34,7 @@ pub record Turning (calls boards cancels times : List ℕ) (f : Figures) (p q i 
 passed_none : (body : List ℕ) (calls : Tagged) → Passed body calls 0 0
 passed_none body calls = record { within = omega arith; before = λ j k l. absurd (omega arith) }
 
-pub turning_begin : (calls boards cancels times : List ℕ) (f : Figures) → f ≡ no_figures 0 → Turning calls boards cancels times f 0 0 0
+pub turning_begin : (calls boards cancels times : List ℕ) (f : Figures) → f ≡ no_figures → Turning calls boards cancels times f 0 0 0
 turning_begin calls boards cancels times f e = record {
   within = omega arith;
   figured = subst (Figured (traffic_of calls boards cancels times) 0) (sym e) (figured_none (traffic_of calls boards cancels times));

@@ -32,7 +32,7 @@ Timed times start Open = Unit
 -- The figures with one call more that has waited for d, but for how it ended.
 abbrev pub waited_for : ℕ → Figures → Figures
 waited_for d f =
-    record { refusal = f.refusal; calls = f.calls + 1; boarded = f.boarded; cancelled = f.cancelled; left_open = f.left_open; total = f.total + d; longest = max f.longest d; over = f.over + 1 }
+    record { calls = f.calls + 1; boarded = f.boarded; cancelled = f.cancelled; left_open = f.left_open; total = f.total + d; longest = max f.longest d; over = f.over + 1 }
 
 -- The figures with one call more that starts at a number, by its outcome.
 abbrev pub added : (ℕ → ℕ) → ℕ → Figures → Outcome → Figures

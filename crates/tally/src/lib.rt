@@ -136,7 +136,7 @@ pub fn tally(calls: &[u8], boards: &[u8], cancels: &[u8], times: &[u32]) -> Figu
     requires { Sound (traffic_of calls.now boards.now cancels.now times.now) (length times.now) }
     ensures { Figured (traffic_of calls.now boards.now cancels.now times.now) (length calls.now / 8) result }
 {
-    let mut figures = Figures::none(0);
+    let mut figures = Figures::none();
     let mut boardings = Records::new(boards);
     let mut cancellations = Records::new(cancels);
     for i in 0..calls.len() / Label::BYTES {

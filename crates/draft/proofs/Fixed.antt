@@ -1,9 +1,11 @@
--- The promises of reading a step and of leaving a bracket fix the outcome: two drafts that satisfy one are equal.
+-- The promises of reading a step and of leaving a bracket fix the outcome: what is handed on by two readings that satisfy one is equal.
 use Prim.Native.Nat.{ℕ}
-use mathlib.Core.Path.{◌≡◌, sym, ap, ◌∙◌}
+use mathlib.Core.Path.{◌≡◌, refl, sym, ap, ◌∙◌}
 use mathlib.Core.List.{List}
 use lib.ListN.{drop}
+use Rattle.std.specs.Prelude.{Option, Result, Ok}
 use Rattle.meaning.proofs.Laws.Name.{name_same}
+use Rattle.draft.specs.declared.Broken.{Broken}
 use Rattle.draft.specs.declared.Draft.{Draft}
 use Rattle.draft.specs.Drafts.{stepped}
 use Rattle.draft.specs.Steps.{FoundStep, NoStep, StepRead, taken, missing, LeftBracket, shut, unshut}
@@ -18,16 +20,16 @@ module _ {t : List ℕ} where
   stands : {at e : ℕ} → FoundStep t at e → NoStep t at → ⊥
   stands {e = e} f none = none f.name (drop e t) f.proper f.halts f.text
 
-  -- Two drafts that reading a step gives are equal.
-  pub step_fixed : {hang d : ℕ} {q r s : Draft} → StepRead t hang d q r → StepRead t hang d q s → r ≡ s
-  step_fixed {hang} {d} {q} (taken f w) (taken g v) = w ∙ ap (stepped q hang d) (one_name f g) ∙ sym v
-  step_fixed (taken f w) (missing b n) = absurd (stands f n)
-  step_fixed (missing b n) (taken g v) = absurd (stands g n)
-  step_fixed (missing b n) (missing c m) = b ∙ sym c
+  -- What reading a step hands on is one thing.
+  pub step_fixed : {hang : Option ℕ} {d : ℕ} {q : Draft} {r s : Result Draft Broken} → StepRead t hang d q r → StepRead t hang d q s → r ≡ s
+  step_fixed {hang} {d} {q} (taken f w) (taken g v) = ap Ok (w ∙ ap (stepped q hang d) (one_name f g) ∙ sym v)
+  step_fixed (taken f w) (missing n) = absurd (stands f n)
+  step_fixed (missing n) (taken g v) = absurd (stands g n)
+  step_fixed (missing n) (missing m) = refl
 
-  -- Two drafts that leaving a bracket gives are equal.
-  pub leave_fixed : {me : ℕ} {q r s : Draft} → LeftBracket t me q r → LeftBracket t me q s → r ≡ s
-  leave_fixed (shut e z w) (shut f y v) = w ∙ sym v
-  leave_fixed (shut e z w) (unshut b n) = absurd (n e z)
-  leave_fixed (unshut b n) (shut f y v) = absurd (n f y)
-  leave_fixed (unshut b n) (unshut c m) = b ∙ sym c
+  -- What leaving a bracket hands on is one thing.
+  pub leave_fixed : {me : ℕ} {q : Draft} {r s : Result Draft Broken} → LeftBracket t me q r → LeftBracket t me q s → r ≡ s
+  leave_fixed (shut z w) (shut y v) = ap Ok (w ∙ sym v)
+  leave_fixed (shut z w) (unshut n) = absurd (n z)
+  leave_fixed (unshut n) (shut y v) = absurd (n y)
+  leave_fixed (unshut n) (unshut m) = refl

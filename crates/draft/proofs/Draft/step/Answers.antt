@@ -1,9 +1,10 @@
 -- `draft::Draft::step` meets its contract: the length of the name says whether a step stands here.
-use Rattle.draft.proofs.Lengths.{some_length, step_room, step_taken}
+use Rattle.draft.specs.Steps.{missing}
+use Rattle.draft.proofs.Lengths.{no_length, some_length, step_taken}
 use Rattle.draft.proofs.Draft.step.Goals as goal
 
-pub with-requires : goal.with-requires
-with-requires c = step_room c.requires (some_length c.step_length-length.ensures c.if-length-eq0.false)
+pub returns-in_default-clause-read : goal.returns-in_default-clause-read
+returns-in_default-clause-read c = missing (no_length (rw c.from.ensures at c.in_default.ensures))
 
-pub returns : goal.returns
-returns c = step_taken c.step_length-length.result (some_length c.step_length-length.ensures c.if-length-eq0.false) c.with.ensures
+pub returns-clause-read : goal.returns-clause-read
+returns-clause-read c = step_taken c.in-Some.length (some_length (rw c.from.ensures at c.in-Some.ensures)) c.add.ensures

@@ -5,6 +5,7 @@ use mathlib.Core.Path.{◌≡◌, refl, sym, ap, ap₂, ◌∙◌}
 use mathlib.Core.List.{List, [], ◌∷◌, ◌++◌}
 use lib.ListN.{length, set, length-append}
 use lib.Seq.{sets}
+use Rattle.std.specs.Prelude.{Option, Some}
 use Rattle.meaning.specs.declared.Step.{Step}
 use Rattle.meaning.specs.Notation.{Path, path, After, bracket, steps, depth, depth_after, last_step, last_after}
 use Rattle.draft.specs.declared.Draft.{Draft}
@@ -19,7 +20,7 @@ sets_append [] ys l i = ap (λ (k : ℕ). sets l k ys) (omega arith)
 sets_append (x ∷ xs) ys l i = sets_append xs ys (set l i x) (suc i) ∙ ap (λ (k : ℕ). sets (sets (set l i x) (suc i) xs) k ys) (omega arith)
 
 -- A draft whose fields are equal to those of a grown one is that one.
-as_grown : (q : Draft) (xs : List Step) (d at last : ℕ) {l : List Step} {c e : ℕ} → l ≡ sets q.steps q.count xs → c ≡ q.count + length xs → e ≡ max q.deepest d → record { steps = l; count = c; deepest = e; at = at; last = last; broken = q.broken } ≡ grown q xs d at last
+as_grown : (q : Draft) (xs : List Step) (d at last : ℕ) {l : List Step} {c e : ℕ} → l ≡ sets q.steps q.count xs → c ≡ q.count + length xs → e ≡ max q.deepest d → record { steps = l; count = c; deepest = e; at = at; last = last } ≡ grown q xs d at last
 unfolding grown
 as_grown q xs d at last s c e = rw (s, c, e)
 
@@ -49,7 +50,7 @@ deep_bracket : (d i a : ℕ) → max (d + 1 + i) (d + a) ≡ d + max (1 + i) a
 deep_bracket d i a = omega arith
 
 -- A path's first step, and then what follows its name, make the path.
-pub step_then : (q : Draft) (hang d : ℕ) (n : List ℕ) (a : After) → followed (stepped q hang d n) d a ≡ walked q hang d (path n a)
+pub step_then : (q : Draft) (hang : Option ℕ) (d : ℕ) (n : List ℕ) (a : After) → followed (stepped q hang d n) d a ≡ walked q hang d (path n a)
 unfolding grown stored depth last_step
 step_then q hang d n a =
     let e : ℕ = q.at + 2 + length n in
@@ -58,15 +59,15 @@ step_then q hang d n a =
     ∙ regrown q (step_of q.at n hang ∷ ys) (last_after a q.count (q.count + 1)) (deep_path d (depth_after a)) (omega (arith, size_path n a))
 
 -- A path in a bracket, and then what follows the bracket, make what follows the name before the bracket.
-pub bracket_then : (q i : Draft) (d : ℕ) (p : Path) (a : After) → i ≡ walked (moved q (q.at + 1) q.last) q.last (d + 1) p → followed (moved i (i.at + 1) q.last) d a ≡ followed q d (bracket p a)
+pub bracket_then : (q i : Draft) (d : ℕ) (p : Path) (a : After) → i ≡ walked (moved q (q.at + 1) q.last) (Some q.last) (d + 1) p → followed (moved i (i.at + 1) q.last) d a ≡ followed q d (bracket p a)
 unfolding grown moved stored depth last_step
 bracket_then q i d p a w =
     let me : ℕ = q.last in
     let k : ℕ = q.count + steps p in
     let e : ℕ = q.at + 1 + size p in
-    let xs : List Step = stored p me q.count (q.at + 1) in
+    let xs : List Step = stored p (Some me) q.count (q.at + 1) in
     let ys : List Step = stored_after a me k (e + 1) in
-    let many : i.count ≡ k = ap (λ (x : Draft). x.count) w ∙ ap (λ (j : ℕ). q.count + j) (stored_long p me q.count (q.at + 1)) in
+    let many : i.count ≡ k = ap (λ (x : Draft). x.count) w ∙ ap (λ (j : ℕ). q.count + j) (stored_long p (Some me) q.count (q.at + 1)) in
     let place : i.at ≡ e = ap (λ (x : Draft). x.at) w in
     ap₂ (λ (c j : ℕ). grown i (stored_after a me c (j + 1)) (d + depth_after a) (j + 1 + size_after a) (last_after a me c)) many place
     ∙ ap (λ (x : Draft). grown x ys (d + depth_after a) (e + 1 + size_after a) (last_after a me k)) w

@@ -4,6 +4,7 @@ use native.Mathlib.Omega.{arith}
 use mathlib.Core.Path.{◌≡◌, refl, sym, ap, ◌∙◌, subst}
 use mathlib.Core.List.{List, ◌∷◌, ◌++◌}
 use lib.ListN.{drop}
+use Rattle.std.specs.Prelude.{Option, Some}
 use Rattle.meaning.specs.Notation.{Path, path, After, finish, bracket, next, write, write_after, Named, NamedAfter, depth, last_step}
 use Rattle.meaning.specs.Ends.{Stops}
 use Rattle.meaning.proofs.Laws.Name.{name_same}
@@ -19,7 +20,7 @@ use Rattle.path.proofs.Growths.{grown_none, step_then, bracket_then}
 -- The text t.
 module _ (t : List ℕ) where
   -- A path ends at one place only: two drafts that are reached by a path are equal.
-  pub one_path : {hang d : ℕ} {q x y : Draft} → ReachPath t hang d q x → ReachPath t hang d q y → x ≡ y
+  pub one_path : {hang : Option ℕ} {d : ℕ} {q x y : Draft} → ReachPath t hang d q x → ReachPath t hang d q y → x ≡ y
   one_path {hang} {d} {q} {x} {y} r s =
       let e = (same_path r.tree s.tree (drop x.at t) (drop y.at t) r.named s.named r.halts s.halts (sym r.text ∙ s.text)).0 in
       r.gives ∙ ap (walked q hang d) e ∙ sym s.gives
@@ -30,16 +31,16 @@ module _ (t : List ℕ) where
   at_end {d} {q} h s = record { follow = finish; named = tt; text = refl; halts = s; gives = grown_none q d h }
 
   -- A path may follow: its first step is the next step.
-  pub from_next : {d : ℕ} {q x : Draft} → ReachPath t q.last d q x → Reach t d q x
+  pub from_next : {d : ℕ} {q x : Draft} → ReachPath t (Some q.last) d q x → Reach t d q x
   unfolding write stored depth last_step
   from_next r = record { follow = next r.tree; named = r.named; text = r.text; halts = r.halts; gives = r.gives }
 
   -- Where no path can end and no bracket begins, only a path follows.
-  pub to_next : {d : ℕ} {q x : Draft} → (Stops (drop q.at t) → ⊥) → ((s : List ℕ) → drop q.at t ≡ 91 ∷ s → ⊥) → Reach t d q x → ReachPath t q.last d q x
+  pub to_next : {d : ℕ} {q x : Draft} → (Stops (drop q.at t) → ⊥) → ((s : List ℕ) → drop q.at t ≡ 91 ∷ s → ⊥) → Reach t d q x → ReachPath t (Some q.last) d q x
   unfolding write stored depth last_step
   to_next {d} {q} {x} no_stop no-bracket r = go r.follow r.named r.text r.gives
     where
-      go : (a : After) → NamedAfter a → drop q.at t ≡ write_after a (drop x.at t) → x ≡ followed q d a → ReachPath t q.last d q x
+      go : (a : After) → NamedAfter a → drop q.at t ≡ write_after a (drop x.at t) → x ≡ followed q d a → ReachPath t (Some q.last) d q x
       go finish n e w = absurd (no_stop (subst Stops (sym e) r.halts))
       go (bracket p a) n e w = absurd (no-bracket _ e)
       go (next p) n e w = record { tree = p; named = n; text = e; halts = r.halts; gives = w }
@@ -47,7 +48,7 @@ module _ (t : List ℕ) where
   -- A bracket and what follows it: the draft behind the path in the bracket, behind which a `]` stands.
   pub record BracketHere (d : ℕ) (q x : Draft) : Type 0 where
     pub inner : Draft
-    pub walk : ReachPath t q.last (d + 1) (moved q (q.at + 1) q.last) inner
+    pub walk : ReachPath t (Some q.last) (d + 1) (moved q (q.at + 1) q.last) inner
     pub close : ShutAt t inner.at
     pub rest : Reach t d (moved inner (inner.at + 1) q.last) x
 
@@ -75,7 +76,7 @@ module _ (t : List ℕ) where
       go (next (path m a)) n e w = let z : ◌≡◌ {A = ℕ} 47 91 = cc in absurd (omega arith)
       go (bracket p a) n e w =
           let q₁ : Draft = moved q (q.at + 1) q.last in
-          let i : Draft = walked q₁ q.last (d + 1) p in
+          let i : Draft = walked q₁ (Some q.last) (d + 1) p in
           let tail : List ℕ = 93 ∷ write_after a (drop x.at t) in
           let inside : drop (q.at + 1) t ≡ write p tail = cut_byte t q.at e in
           let behind : drop (q.at + 1 + size p) t ≡ tail = cut_path t (q.at + 1) p tail inside in
@@ -88,7 +89,7 @@ module _ (t : List ℕ) where
           }
 
   -- A step and what follows its name are a path.
-  pub shut_path : {hang d : ℕ} {q r x : Draft} (f : FoundStep t q.at r.at) → r ≡ stepped q hang d f.name → Reach t d r x → ReachPath t hang d q x
+  pub shut_path : {hang : Option ℕ} {d : ℕ} {q r x : Draft} (f : FoundStep t q.at r.at) → r ≡ stepped q hang d f.name → Reach t d r x → ReachPath t hang d q x
   unfolding write
   shut_path {hang} {d} {q} {r} {x} f w y = record {
     tree = path f.name y.follow;
@@ -99,7 +100,7 @@ module _ (t : List ℕ) where
   }
 
   -- Where a step stands, a path is this step and what follows its name.
-  pub open_path : {hang d : ℕ} {q r x : Draft} (f : FoundStep t q.at r.at) → r ≡ stepped q hang d f.name → ReachPath t hang d q x → Reach t d r x
+  pub open_path : {hang : Option ℕ} {d : ℕ} {q r x : Draft} (f : FoundStep t q.at r.at) → r ≡ stepped q hang d f.name → ReachPath t hang d q x → Reach t d r x
   unfolding write
   open_path {hang} {d} {q} {r} {x} f w y = go y.tree y.named y.text y.gives
     where
@@ -115,7 +116,7 @@ module _ (t : List ℕ) where
           }
 
   -- Where no step stands, no path does.
-  pub no_path : {hang d : ℕ} {q x : Draft} → NoStep t q.at → ReachPath t hang d q x → ⊥
+  pub no_path : {hang : Option ℕ} {d : ℕ} {q x : Draft} → NoStep t q.at → ReachPath t hang d q x → ⊥
   unfolding write
   no_path {hang} {d} {q} {x} none y = go y.tree y.named y.text
     where

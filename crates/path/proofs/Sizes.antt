@@ -5,6 +5,7 @@ use mathlib.Core.Path.{◌≡◌, refl, sym, ap, ap₂, ◌∙◌}
 use mathlib.Core.List.{List, [], ◌∷◌, ◌++◌, append_assoc}
 use lib.ListN.{length, drop, length-append}
 use lib.Seq.{drop-drop, drop-append_seam}
+use Rattle.std.specs.Prelude.{Option}
 use Rattle.meaning.specs.Notation.{Path, path, After, finish, bracket, next, write, write_after, steps, steps_after}
 use Rattle.path.specs.Stored.{size, size_after, stored, stored_after}
 
@@ -50,7 +51,7 @@ mutual
   unfolding steps stored
 
   -- As many steps are stored as the path has.
-  pub stored_long : (p : Path) (hang k at : ℕ) → length (stored p hang k at) ≡ steps p
+  pub stored_long : (p : Path) (hang : Option ℕ) (k at : ℕ) → length (stored p hang k at) ≡ steps p
   stored_long (path n a) hang k at = omega (arith, after_long a k (k + 1) (at + 2 + length n))
 
   -- The same of what follows a name.

@@ -1,27 +1,32 @@
 // The reading of a path.
 #![tactic(auto)]
 
+ghost use Rattle.draft.specs.Drafts.{handed_on};
 ghost use Rattle.draft.specs.Steps.{MayRead};
 ghost use Rattle.path.specs.Reach.{PathRead};
 
-use draft::{Draft, ends};
+use draft::{Broken, Draft, ends};
 
-// Reads a path in `depth` brackets, whose first step hangs from step `hang`. What falls from call to call is the bytes left.
-pub fn read_path(text: &[u8], hang: u16, depth: u16, mut d: Draft) -> Draft
-    requires { MayRead text.now hang depth d }
-    ensures { PathRead text.now hang depth d result }
+// Reads a path in `depth` brackets, whose first step hangs from step `hang`, or from nothing. What falls from call to call is the bytes left.
+pub fn read_path(
+    text: &[u8],
+    hang: Option<u16>,
+    depth: u16,
+    draft: &mut Draft,
+) -> Result<(), Broken>
+    requires { MayRead text.now hang depth draft.old }
+    ensures { PathRead text.now hang depth draft.old (handed_on result draft.new) }
 {
-    d = d.step(text, hang, depth);
-    while !d.broken && !ends(text, d.at as usize) {
-        let me = d.last;
-        let at = d.at as usize;
-        if text[at] == b'[' {
-            d.at = d.at + 1;
-            d = read_path(text, me, depth + 1, d);
-            d = d.leave(text, me);
+    draft.step(text, hang, depth)?;
+    while !ends(text, usize::from(draft.at)) {
+        let me = draft.last;
+        if text[usize::from(draft.at)] == b'[' {
+            draft.at += 1;
+            read_path(text, Some(me), depth + 1, draft)?;
+            draft.leave(text, me)?;
         } else {
-            d = d.step(text, me, depth);
+            draft.step(text, Some(me), depth)?;
         }
     }
-    d
+    Ok(())
 }

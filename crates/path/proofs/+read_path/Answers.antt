@@ -1,54 +1,73 @@
 -- `path::read_path` meets its contract.
 use Rattle.std.proofs.Common.{arith}
-use Rattle.std.proofs.lemmas.Bool.{not-true, not-false}
 use Rattle.meaning.proofs.Decide.{if_true, if_false}
 use Rattle.draft.specs.Drafts.{moved}
-use Rattle.draft.proofs.Bytes.{byte_at, byte_is}
-use Rattle.draft.proofs.Closing.{not_both}
-use Rattle.path.proofs.PathLoop.{still_on, goes_on, remaining_falls, step_moves, start, bracket_ready, next_ready, again_bracket, bracket_moves, again_next, ended}
+use Rattle.path.proofs.PathLoop.{goes_on, opens, opens_not, nothing_read, no_start, start, bracket_ready, next_ready, bracket_turn, bracket_empty, bracket_open, next_on, next_missing, ended}
 use Rattle.path.proofs.+read_path.Goals as goal
 
-pub loop-d-init : goal.loop-d-init
-loop-d-init t c = start c.requires c.step-d.ensures
+pub returns-in_err-step : goal.returns-in_err-step
+returns-in_err-step t c = nothing_read _ _ c.from_residual.ensures.0 (no_start c.in_err-step.ensures.read)
 
-pub read_path-d-requires : goal.read_path-d-requires
+pub loop-me-init : goal.loop-me-init
+loop-me-init t c = start c.requires c.in_ok-step.ensures.read
+
+pub bounds-text-from : goal.bounds-text-from
+bounds-text-from t c = omega (arith, goes_on c.args.text.now c.from.result (if_false c.ends.ensures c.loop-me-test.true))
+
+pub read_path-requires : goal.read_path-requires
 unfolding moved
-read_path-d-requires t c =
-    let g = still_on c.loop-d.invariant (not-true _ c.loop-d-test.true) in
-    let on = goes_on c.args.text.now c.loop-d.d.at (if_false c.ends.ensures c.if-not-ends.true) in
-    (omega (arith, c.decreases, on, g.low, step_moves c.step-d.ensures g.began), bracket_ready g c.requires.short on (omega (arith, g.shallow)) (λ k. omega (arith, g.mine)))
+read_path-requires t c =
+    let g = c.loop-me.invariant in
+    let on = goes_on c.args.text.now c.from.result (if_false c.ends.ensures c.loop-me-test.true) in
+    (omega (arith, c.decreases, on, g.low), bracket_ready g c.requires.short (omega (arith, on)) (omega (arith, g.shallow)) (λ k. omega (arith, g.mine)))
 
-pub loop-d-smaller-then-text-at-eq91 : goal.loop-d-smaller-then-text-at-eq91
+pub returns-in_err-read_path : goal.returns-in_err-read_path
 unfolding moved
-loop-d-smaller-then-text-at-eq91 t c =
-    let g = still_on c.loop-d.invariant (not-true _ c.loop-d-test.true) in
-    let on = goes_on c.args.text.now c.loop-d.d.at (if_false c.ends.ensures c.if-not-ends.true) in
-    remaining_falls c.args.text.now c.loop-d.d c.leave-d.result g.sound on (bracket_moves g c.read_path-d.ensures c.leave-d.ensures)
+returns-in_err-read_path t c =
+    let b = opens c.args.text.now c.loop-me.draft.at (if_false c.ends.ensures c.loop-me-test.true) c.from.ensures c.from-in-loop-me.ensures c.if-text-from-eq91.true in
+    nothing_read _ _ c.from_residual-in_err-read_path.ensures.0 (bracket_empty c.loop-me.invariant b c.in_err-read_path.ensures (omega arith) (omega arith))
 
-pub loop-d-preserved-then-text-at-eq91 : goal.loop-d-preserved-then-text-at-eq91
+pub loop-me-smaller-in-Continue-branch-3 : goal.loop-me-smaller-in-Continue-branch-3
 unfolding moved
-loop-d-preserved-then-text-at-eq91 t c =
-    let g = still_on c.loop-d.invariant (not-true _ c.loop-d-test.true) in
-    let on = goes_on c.args.text.now c.loop-d.d.at (if_false c.ends.ensures c.if-not-ends.true) in
-    again_bracket g (byte_at c.args.text.now c.loop-d.d.at 91 on c.if-text-at-eq91.true) c.read_path-d.ensures c.leave-d.ensures (omega arith) (omega arith)
+loop-me-smaller-in-Continue-branch-3 t c =
+    let none = if_false c.ends.ensures c.loop-me-test.true in
+    let b = opens c.args.text.now c.loop-me.draft.at none c.from.ensures c.from-in-loop-me.ensures c.if-text-from-eq91.true in
+    let s = bracket_turn c.loop-me.invariant b c.in_ok-read_path.ensures c.in_ok-leave.ensures.left (omega arith) (omega arith) in
+    omega (arith, goes_on c.args.text.now c.from.result none, s.0)
 
-pub step-d-requires-else-text-at-eq91 : goal.step-d-requires-else-text-at-eq91
-step-d-requires-else-text-at-eq91 t c = next_ready (still_on c.loop-d.invariant (not-true _ c.loop-d-test.true)) c.requires.short
+pub loop-me-preserved-in-Continue-branch-3 : goal.loop-me-preserved-in-Continue-branch-3
+unfolding moved
+loop-me-preserved-in-Continue-branch-3 t c =
+    let b = opens c.args.text.now c.loop-me.draft.at (if_false c.ends.ensures c.loop-me-test.true) c.from.ensures c.from-in-loop-me.ensures c.if-text-from-eq91.true in
+    (bracket_turn c.loop-me.invariant b c.in_ok-read_path.ensures c.in_ok-leave.ensures.left (omega arith) (omega arith)).1
 
-pub loop-d-smaller : goal.loop-d-smaller
-loop-d-smaller t c =
-    let g = still_on c.loop-d.invariant (not-true _ c.loop-d-test.true) in
-    let on = goes_on c.args.text.now c.loop-d.d.at (if_false c.ends.ensures c.if-not-ends.true) in
-    remaining_falls c.args.text.now c.loop-d.d c.step-d-else-text-at-eq91.result g.sound on (step_moves c.step-d-else-text-at-eq91.ensures)
+pub returns-in_err-leave : goal.returns-in_err-leave
+unfolding moved
+returns-in_err-leave t c =
+    let b = opens c.args.text.now c.loop-me.draft.at (if_false c.ends.ensures c.loop-me-test.true) c.from.ensures c.from-in-loop-me.ensures c.if-text-from-eq91.true in
+    nothing_read _ _ c.from_residual-in_err-leave.ensures.0 (bracket_open c.loop-me.invariant b c.in_ok-read_path.ensures c.in_err-leave.ensures.left (omega arith) (omega arith))
 
-pub loop-d-preserved : goal.loop-d-preserved
-loop-d-preserved t c =
-    let g = still_on c.loop-d.invariant (not-true _ c.loop-d-test.true) in
-    let no_end = if_false c.ends.ensures c.if-not-ends.true in
-    again_next g no_end (λ s e. c.if-text-at-eq91.false (byte_is c.args.text.now c.loop-d.d.at 91 s e).1) c.step-d-else-text-at-eq91.ensures
+pub step-requires-else-text-from-eq91 : goal.step-requires-else-text-from-eq91
+step-requires-else-text-from-eq91 t c = next_ready c.loop-me.invariant c.requires.short
 
-pub returns-else-not-ends : goal.returns-else-not-ends
-returns-else-not-ends t c = ended c.requires.sound c.step-d.ensures c.loop-d.invariant (λ e. if_true c.ends.ensures c.if-not-ends.false)
+pub loop-me-smaller : goal.loop-me-smaller
+loop-me-smaller t c =
+    let none = if_false c.ends.ensures c.loop-me-test.true in
+    let b = opens_not c.args.text.now c.loop-me.draft.at c.from-in-loop-me.ensures c.if-text-from-eq91.false in
+    let s = next_on c.loop-me.invariant (rw c.from.ensures at none) b c.in_ok-step-2.ensures.read in
+    omega (arith, goes_on c.args.text.now c.from.result none, s.0)
 
-pub returns-after-loop-d : goal.returns-after-loop-d
-returns-after-loop-d t c = ended c.requires.sound c.step-d.ensures c.loop-d.invariant (λ e. absurd (not_both (not-false _ c.loop-d-test.false) e))
+pub loop-me-preserved : goal.loop-me-preserved
+loop-me-preserved t c =
+    let none = if_false c.ends.ensures c.loop-me-test.true in
+    let b = opens_not c.args.text.now c.loop-me.draft.at c.from-in-loop-me.ensures c.if-text-from-eq91.false in
+    (next_on c.loop-me.invariant (rw c.from.ensures at none) b c.in_ok-step-2.ensures.read).1
+
+pub returns-in_err-step-2 : goal.returns-in_err-step-2
+returns-in_err-step-2 t c =
+    let none = if_false c.ends.ensures c.loop-me-test.true in
+    let b = opens_not c.args.text.now c.loop-me.draft.at c.from-in-loop-me.ensures c.if-text-from-eq91.false in
+    nothing_read _ _ c.from_residual-in_err-step-2.ensures.0 (next_missing c.loop-me.invariant (rw c.from.ensures at none) b c.in_err-step-2.ensures.read)
+
+pub returns : goal.returns
+returns t c = ended c.loop-me.invariant (rw c.from.ensures at (if_true c.ends.ensures c.loop-me-test.false))

@@ -1,14 +1,14 @@
--- What falls from call to call is the bytes left. What keeps the loop: from where it is, the same drafts are reached as from where it began,
--- or the text is found broken and none is reached.
+-- What falls from call to call and from turn to turn is the bytes left. What keeps the loop: from where it is, the drafts are reached that a
+-- path reaches from where the call began.
 use Rattle.std.proofs.Common.{◌-◌, length}
-use Rattle.path.proofs.PathLoop.{PathState, remaining}
+use Rattle.path.proofs.PathLoop.{Going}
 use Rattle.path.proofs.+read_path.Given as goal
 
 abbrev pub decreases-read_path : goal.decreases-read_path
-decreases-read_path l = length l.text.now - l.d.at
+decreases-read_path l = length l.text.now - l.draft.now.at
 
-abbrev pub invariant-loop-d : goal.invariant-loop-d
-invariant-loop-d l = PathState l.text l.depth l.initial.d l.d
+abbrev pub invariant-loop-me : goal.invariant-loop-me
+invariant-loop-me l = Going l.text l.fn.hang l.depth l.fn.draft l.draft
 
-abbrev pub decreases-loop-d : goal.decreases-loop-d
-decreases-loop-d l = remaining l.text l.d
+abbrev pub decreases-loop-me : goal.decreases-loop-me
+decreases-loop-me l = length l.text - l.draft.at

@@ -1,26 +1,26 @@
--- The promise of reading fixes the outcome: two readings of one text are equal in every field.
+-- The promise of reading fixes the outcome: two readings of one text are equal.
 use Prim.Native.Nat.{ℕ}
 use mathlib.Core.Path.{◌≡◌, sym, ap, ◌∙◌}
 use mathlib.Core.List.{List}
-use Rattle.meaning.specs.Notation.{Path}
-use Rattle.meaning.specs.Refusals.{question_table}
+use Rattle.std.specs.Prelude.{Result, Ok, Err}
+use Rattle.meaning.specs.declared.Question.{Question}
+use Rattle.meaning.specs.declared.refusal.Refusal.{Refusal}
+use Rattle.meaning.specs.Numbers.{number_of}
+use Rattle.meaning.specs.Refusals.{question_table, Judged}
 use Rattle.meaning.proofs.Laws.Notation.{one_tree}
+use Rattle.meaning.proofs.Laws.Numbers.{number_one}
 use Rattle.meaning.proofs.Laws.Table.{given_one, clear_not_given}
-use Rattle.question.specs.declared.Reading.{Reading}
-use Rattle.question.specs.Questions.{question_of, blank_question}
+use Rattle.question.specs.Questions.{question_of}
 use Rattle.question.specs.Promise.{ReadAs, refused, read}
 
--- The reading that refuses a text by the number n.
-abbrev refusal : ℕ → Reading
-refusal n = record { refusal = n; question = blank_question }
-
--- The reading of a text that a tree writes.
-abbrev answered : Path → Reading
-answered p = record { refusal = 0; question = question_of p }
-
 -- Two readings of one text are equal.
-pub read_fixed : (text : List ℕ) (r q : Reading) → ReadAs text r → ReadAs text q → r ≡ q
-read_fixed text r q (refused g e) (refused h f) = e ∙ ap refusal (given_one (question_table text) _ _ g h) ∙ sym f
-read_fixed text r q (refused g e) (read c t f) = absurd (clear_not_given (question_table text) _ c g)
-read_fixed text r q (read c t e) (refused h f) = absurd (clear_not_given (question_table text) _ c h)
-read_fixed text r q (read c t e) (read b u f) = e ∙ ap answered (one_tree t u) ∙ sym f
+pub read_fixed : (text : List ℕ) (r q : Result Question Refusal) → ReadAs text r → ReadAs text q → r ≡ q
+read_fixed text (Err d) (Err e) (refused g) (refused h) = ap Err (number_one d e (given_one (question_table text) (number_of d) (number_of e) g h))
+read_fixed text (Err d) (Ok q) (refused g) (read c t e) = absurd (clear_not_given (question_table text) (number_of d) c g)
+read_fixed text (Ok q) (Err e) (read c t w) (refused h) = absurd (clear_not_given (question_table text) (number_of e) c h)
+read_fixed text (Ok q) (Ok p) (read c t e) (read b u f) = ap Ok (e ∙ ap question_of (one_tree t u) ∙ sym f)
+
+-- Reading answers the question's rows of the table of refusals.
+pub read_judged : (text : List ℕ) (r : Result Question Refusal) → ReadAs text r → Judged (question_table text) r
+read_judged text (Err e) (refused g) = g
+read_judged text (Ok q) (read c t e) = c

@@ -3,18 +3,19 @@ use Prim.Native.Nat.{ℕ, zero, suc, ◌+◌, ◌-◌, ◌≤◌, ◌<◌, max}
 use native.Mathlib.Numerals.{unary_clauses}
 use native.Mathlib.Omega.{arith}
 use mathlib.Core.Path.{◌≡◌, refl, sym, ap, ap₂, ◌∙◌, subst}
-use mathlib.Core.Bool.{true, false}
 use mathlib.Core.List.{List, [], ◌++◌}
 use lib.ListN.{length, drop, replicate, length-append, length-drop, length-replicate, drop_of_length-le}
 use lib.Seq.{sets, sets-eq, drop-nil}
+use Rattle.std.specs.Prelude.{Option, None, Result, Ok, Err}
+use Rattle.std.specs.Result.{result_or}
 use Rattle.meaning.specs.declared.Step.{Step}
+use Rattle.meaning.specs.declared.refusal.Refusal.{Refusal}
 use Rattle.meaning.specs.Limits.{most_text, most_steps}
 use Rattle.meaning.specs.Notation.{nothing, write, Follows, steps, depth, last_step, returned_step, NotFollowing}
+use Rattle.draft.specs.declared.Broken.{Broken}
 use Rattle.draft.specs.declared.Draft.{Draft}
-use Rattle.draft.specs.Drafts.{blank_step, filled_up, blank_draft, fresh, grown}
+use Rattle.draft.specs.Drafts.{blank_step, filled_up, fresh, handed_on, grown}
 use Rattle.draft.specs.Steps.{MayRead}
-use Rattle.draft.proofs.Blank.{is_broken}
-use Rattle.draft.proofs.Closing.{not_both}
 use Rattle.path.specs.Stored.{size, stored}
 use Rattle.path.specs.Reach.{walked, ReachPath, PathRead, whole, torn}
 use Rattle.path.proofs.Sizes.{write_before, stored_long, cut_path}
@@ -35,40 +36,34 @@ sets_blank m xs h =
 
 -- The draft before the first byte has no step.
 fresh_count : fresh.count ≡ 0
-unfolding blank_draft
+unfolding fresh
 fresh_count = refl
 
 -- It stands at the first byte.
 fresh_at : fresh.at ≡ 0
-unfolding blank_draft
+unfolding fresh
 fresh_at = refl
 
 -- It has gone into no bracket.
 fresh_deepest : fresh.deepest ≡ 0
-unfolding blank_draft
+unfolding fresh
 fresh_deepest = refl
 
 -- Steps put into its entries.
 fresh_sets : (xs : List Step) → length xs ≤ most_steps → sets fresh.steps 0 xs ≡ filled_up xs
-unfolding blank_draft
+unfolding fresh
 fresh_sets xs h = sets_blank most_steps xs h
 
--- It is not broken.
-fresh_sound : fresh.broken ≡ false
-unfolding blank_draft
-fresh_sound = refl
-
 -- It is ready for a first step that hangs from nothing.
-pub fresh_ready : {t : List ℕ} {q : Draft} → q ≡ fresh → length t ≤ most_text → MayRead t 255 0 q
-unfolding blank_draft
-fresh_ready {t} {q} e h = subst (λ (x : Draft). MayRead t 255 0 x) (sym e) (record {
-  sound = refl;
+pub fresh_ready : {t : List ℕ} {q : Draft} → q ≡ fresh → length t ≤ most_text → MayRead t None 0 q
+unfolding fresh
+fresh_ready {t} {q} e h = subst (λ (x : Draft). MayRead t None 0 x) (sym e) (record {
   short = h;
   room = refl;
   within = omega arith;
   few = omega arith;
   shallow = omega arith;
-  narrow = λ k. omega arith;
+  narrow = λ k. tt;
 })
 
 -- The whole text was read: a tree writes it, and the draft holds what is known of the tree.
@@ -84,7 +79,7 @@ max_zero : (a d : ℕ) → a ≡ 0 → max a (0 + d) ≡ d
 max_zero a d e = omega arith
 
 -- A path that begins within the text ends within it.
-path_within : {t : List ℕ} {hang d : ℕ} {q r : Draft} → ReachPath t hang d q r → q.at ≤ length t → r.at ≤ length t
+path_within : {t : List ℕ} {hang : Option ℕ} {d : ℕ} {q r : Draft} → ReachPath t hang d q r → q.at ≤ length t → r.at ≤ length t
 unfolding grown
 path_within {t} {hang} {d} {q} {r} p h =
     let place : r.at ≡ q.at + size p.tree = ap (λ (x : Draft). x.at) p.gives in
@@ -92,14 +87,14 @@ path_within {t} {hang} {d} {q} {r} p h =
     omega (arith, long, length-append (write p.tree []) (drop r.at t), length-drop q.at t, length-drop r.at t)
 
 -- A path that ends at the text's end is the whole text.
-path_held : {t : List ℕ} {q : Draft} → ReachPath t 255 0 fresh q → length t ≤ q.at → HoldsTree t q
+path_held : {t : List ℕ} {q : Draft} → ReachPath t None 0 fresh q → length t ≤ q.at → HoldsTree t q
 unfolding grown
 path_held {t} {q} r h =
     let p = r.tree in
     let w = r.gives in
-    let xs : List Step = stored p 255 0 0 in
-    let long : length xs ≡ steps p = stored_long p 255 0 0 in
-    let same : stored p 255 fresh.count fresh.at ≡ xs = ap₂ (stored p 255) fresh_count fresh_at in
+    let xs : List Step = stored p None 0 0 in
+    let long : length xs ≡ steps p = stored_long p None 0 0 in
+    let same : stored p None fresh.count fresh.at ≡ xs = ap₂ (stored p None) fresh_count fresh_at in
     let many : q.count ≡ steps p = ap (λ (x : Draft). x.count) w ∙ ap₂ (λ (c : ℕ) (l : List Step). c + length l) fresh_count same ∙ omega arith in
     record {
       writes = record {
@@ -114,44 +109,41 @@ path_held {t} {q} r h =
     }
 
 -- Where a tree writes the text, a path ends at its end.
-parsed : {t : List ℕ} → Follows t → (q : Draft) × (ReachPath t 255 0 fresh q × (q.at ≡ length t))
+parsed : {t : List ℕ} → Follows t → (q : Draft) × (ReachPath t None 0 fresh q × (q.at ≡ length t))
 unfolding grown
 parsed {t} f =
-    let q : Draft = walked fresh 255 0 f.tree in
+    let q : Draft = walked fresh None 0 f.tree in
     let end : drop (fresh.at + size f.tree) t ≡ [] = cut_path t fresh.at f.tree [] (ap (λ (j : ℕ). drop j t) fresh_at ∙ sym f.written) in
     (q, (record { tree = f.tree; named = f.named; text = ap (λ (j : ℕ). drop j t) fresh_at ∙ sym f.written ∙ ap (write f.tree) (sym end); halts = rw end tt; gives = refl }, omega (arith, ap length f.written, fresh_at)))
 
--- What reading a path says of the text t, from the draft before its first byte on.
-module _ {t : List ℕ} {q₀ q : Draft} (w : q₀ ≡ fresh) (r : PathRead t 255 0 q₀ q) where
-  -- The same with that draft by its name.
-  first : PathRead t 255 0 fresh q
-  first = subst (λ (x : Draft). PathRead t 255 0 x q) w r
+-- What reading a path hands on where a refusal stands in for its error: the draft where that succeeds.
+pub handed : {t : List ℕ} {q₀ q : Draft} (e : Refusal) (o : Result (Unit {0}) Broken) → ◌≡◌ {A = Result (Unit {0}) Refusal} (Ok tt) (result_or o (Err e)) → PathRead t None 0 q₀ (handed_on o q) → PathRead t None 0 q₀ (Ok q)
+handed e (Ok u) s r = r
+handed e (Err b) s r = absurd cc
 
-  -- What is not broken is a path.
-  pub some_path : q.broken ≡ false → ReachPath t 255 0 fresh q
-  some_path e = go first
-    where
-      go : PathRead t 255 0 fresh q → ReachPath t 255 0 fresh q
-      go (whole y) = y
-      go (torn f n) = absurd (not_both (is_broken f) e)
+-- Nothing, and the error is that refusal, where it fails.
+pub handed_none : {t : List ℕ} {q₀ : Draft} (q : Draft) {d : Refusal} (e : Refusal) (o : Result (Unit {0}) Broken) → ◌≡◌ {A = Result (Unit {0}) Refusal} (Err d) (result_or o (Err e)) → PathRead t None 0 q₀ (handed_on o q) → PathRead t None 0 q₀ (Err (record {})) × (d ≡ e)
+handed_none q e (Ok u) s r = absurd cc
+handed_none q e (Err b) s r = (r, cc)
+
+-- What reading a path says of the text t, from the draft before its first byte on, where it hands on the draft q.
+module _ {t : List ℕ} {q₀ q : Draft} (w : q₀ ≡ fresh) (r : PathRead t None 0 q₀ (Ok q)) where
+  -- A path stands there.
+  some_path : ReachPath t None 0 fresh q
+  some_path = elim (subst (λ (x : Draft). PathRead t None 0 x (Ok q)) w r) [ whole y ↦ y ]
 
   -- It ends within the text.
-  pub some_within : q.broken ≡ false → q.at ≤ length t
-  some_within e = path_within (some_path e) (omega (arith, fresh_at))
+  pub some_within : q.at ≤ length t
+  some_within = path_within some_path (omega (arith, fresh_at))
 
-  -- What is broken is written by no tree.
-  pub broken_follows : q.broken ≡ true → NotFollowing t
-  unfolding grown
-  broken_follows e f = go first
-    where
-      go : PathRead t 255 0 fresh q → ⊥
-      go (whole y) = not_both e (ap (λ (x : Draft). x.broken) y.gives ∙ fresh_sound)
-      go (torn g n) = n _ (parsed f).1.0
-
-  -- Nor is a text that goes on behind the path.
-  pub rest_follows : q.broken ≡ false → q.at < length t → NotFollowing t
-  rest_follows e h f = omega (arith, ap (λ (x : Draft). x.at) (one_path t (some_path e) (parsed f).1.0), (parsed f).1.1)
+  -- No tree writes a text that goes on behind the path.
+  pub rest_follows : q.at < length t → NotFollowing t
+  rest_follows h f = omega (arith, ap (λ (x : Draft). x.at) (one_path t some_path (parsed f).1.0), (parsed f).1.1)
 
   -- A path that ends at the text's end is the whole text.
-  pub all_held : q.broken ≡ false → length t ≤ q.at → HoldsTree t q
-  all_held e h = path_held (some_path e) h
+  pub all_held : length t ≤ q.at → HoldsTree t q
+  all_held h = path_held some_path h
+
+-- Where it hands on none, no tree writes the text.
+pub broken_follows : {t : List ℕ} {q₀ : Draft} {b : Broken} → q₀ ≡ fresh → PathRead t None 0 q₀ (Err b) → NotFollowing t
+broken_follows {t} {b = b} w r f = elim (subst (λ (x : Draft). PathRead t None 0 x (Err b)) w r) [ torn n ↦ n _ (parsed f).1.0 ]

@@ -1,12 +1,14 @@
 -- The promise of reading a question.
-use Rattle.std.specs.Prelude.{ℕ, ◌≡◌, List}
+use Rattle.std.specs.Prelude.{ℕ, ◌≡◌, List, Result, Ok, Err}
+use Rattle.meaning.specs.declared.Question.{Question}
+use Rattle.meaning.specs.declared.refusal.Refusal.{Refusal}
 use Rattle.meaning.specs.Notation.{Follows}
+use Rattle.meaning.specs.Numbers.{number_of}
 use Rattle.meaning.specs.Refusals.{Given, Clear, question_table}
-use Rattle.question.specs.declared.Reading.{Reading}
-use Rattle.question.specs.Questions.{question_of, blank_question}
+use Rattle.question.specs.Questions.{question_of}
 
--- Reading a text gives r: the number of the first reason of 7 to 9 that applies and a blank question, or 0 and the question of the
--- text's tree.
-pub data ReadAs (text : List ℕ) (r : Reading) : Type 0 where
-  refused : {n : ℕ} → Given (question_table text) n → r ≡ record { refusal = n; question = blank_question } → ReadAs text r
-  read : Clear (question_table text) → (f : Follows text) → r ≡ record { refusal = 0; question = question_of f.tree } → ReadAs text r
+-- Reading a text gives the refusal by the first reason of 7 to 9 that applies, and nothing of a question, or the question of the text's
+-- tree.
+pub data ReadAs (text : List ℕ) : Result Question Refusal → Type 0 where
+  refused : {e : Refusal} → Given (question_table text) (number_of e) → ReadAs text (Err e)
+  read : {q : Question} → Clear (question_table text) → (f : Follows text) → q ≡ question_of f.tree → ReadAs text (Ok q)

@@ -3,28 +3,36 @@ use Prim.Native.Nat.{ℕ, suc, ◌+◌, ◌≤◌, ◌<◌}
 use native.Mathlib.Numerals.{add-one}
 use native.Mathlib.Omega.{arith}
 use mathlib.Core.Path.{◌≡◌, refl, ap}
-use mathlib.Core.Logic.{◌≢◌}
 use mathlib.Core.Bool.{Bool, true, false, cond, ◌&&◌, false≢true, and-eq-true_iff}
 use mathlib.Core.List.{List, [], ◌∷◌, ◌++◌}
 use lib.ListN.{length, take, drop, get_or, drop_of_length-le}
 use lib.Seq.{drop-cons, length-take-le}
 use borrow.Author.Tests.{le-leb}
+use Rattle.std.specs.List.{prefix_len}
 use Rattle.meaning.specs.Limits.{most_name}
 use Rattle.meaning.specs.Names.{initial, further, all_further, short, is_name, Name}
 use Rattle.meaning.specs.Ends.{NoFurther}
 use Rattle.name.specs.Runs.{run, name_run}
 
--- A text whose first byte may begin a name has a run of one more than the characters behind it.
-pub begins : (s : List ℕ) → length s ≢ 0 → initial (get_or s 0 0) ≡ true → name_run s ≡ suc (run (drop 1 s))
+-- A run is as many characters as are taken while they may stand behind a name's first.
+run_is : (s : List ℕ) → run s ≡ prefix_len further s
+unfolding run
+run_is [] = refl
+run_is (c ∷ cs) = go (further c) (run_is cs)
+  where
+    go : (v : Bool) → run cs ≡ prefix_len further cs → cond v (suc (run cs)) 0 ≡ cond v (1 + prefix_len further cs) 0
+    go true e = omega (arith, e)
+    go false e = refl
+
+-- A text whose first byte may begin a name has a run of one more than the characters behind it that may go on with it.
+pub begins : (s : List ℕ) (c : ℕ) (rest : List ℕ) → s ≡ c ∷ rest → initial c ≡ true → name_run s ≡ 1 + prefix_len further rest
 unfolding name_run
-begins [] h e = absurd (h refl)
-begins (c ∷ cs) h e = simp e
+begins s c rest here e = rw here (simp e (omega (arith, run_is rest)))
 
 -- A text whose first byte may not begin a name has no run.
-pub begins_not : (s : List ℕ) → length s ≢ 0 → initial (get_or s 0 0) ≡ false → name_run s ≡ 0
+pub begins_not : (s : List ℕ) (c : ℕ) (rest : List ℕ) → s ≡ c ∷ rest → initial c ≡ false → name_run s ≡ 0
 unfolding name_run
-begins_not [] h e = absurd (h refl)
-begins_not (c ∷ cs) h e = simp e
+begins_not s c rest here e = rw here (simp e)
 
 -- An empty text has no run.
 pub begins_empty : (s : List ℕ) → length s ≡ 0 → name_run s ≡ 0

@@ -1,7 +1,8 @@
 // The characters of a name, and how far a name reaches in a text.
 #![tactic(auto)]
 
-ghost use Rattle.std.specs.Prelude.{◌≡◌};
+ghost use Rattle.std.specs.Prelude.{◌≡◌, ◌≤◌, length};
+ghost use Rattle.std.specs.List.{prefix_len};
 ghost use Rattle.meaning.specs.Names.{initial, further};
 ghost use Rattle.name.specs.Runs.{name_run};
 
@@ -10,19 +11,7 @@ ghost use Rattle.name.specs.Runs.{name_run};
 pub fn may_begin(c: u8) -> bool
     ensures { result ≡ initial c }
 {
-    if c < b'A' {
-        return false;
-    }
-    if c <= b'Z' {
-        return true;
-    }
-    if c == b'_' {
-        return true;
-    }
-    if c < b'a' {
-        return false;
-    }
-    c <= b'z'
+    matches!(c, b'A'..=b'Z' | b'a'..=b'z' | b'_')
 }
 
 // Whether a name may go on with c: what may begin it, a digit, `-` or `.`.
@@ -30,38 +19,24 @@ pub fn may_begin(c: u8) -> bool
 pub fn may_follow(c: u8) -> bool
     ensures { result ≡ further c }
 {
-    if may_begin(c) {
-        return true;
-    }
-    if c == b'-' {
-        return true;
-    }
-    if c == b'.' {
-        return true;
-    }
-    if c < b'0' {
-        return false;
-    }
-    c <= b'9'
+    may_begin(c) || matches!(c, b'0'..=b'9' | b'-' | b'.')
+}
+
+// How many bytes of s, from its first on, may stand behind a name's first.
+fn further_run(s: &[u8]) -> usize
+    ensures counts { result ≡ prefix_len further s.now }
+    ensures within { result ≤ length s.now }
+{
+    s.iter().take_while(|c| may_follow(**c)).count()
 }
 
 // How many bytes of s, from its first on, may be a name; 0 where the first may not begin one. It may be more than a name has.
-#[tactic(auto, using(crate::proofs::RunLaws::begins, crate::proofs::RunLaws::begins_not, crate::proofs::RunLaws::begins_empty, crate::proofs::RunLaws::run_on, crate::proofs::RunLaws::run_stops, crate::proofs::RunLaws::run_ends))]
+#[tactic(auto, using(crate::proofs::RunLaws::begins, crate::proofs::RunLaws::begins_not, crate::proofs::RunLaws::begins_empty))]
 pub fn name_run(s: &[u8]) -> usize
     ensures { result ≡ name_run s.now }
 {
-    if s.len() == 0 {
-        return 0;
+    match s.split_first() {
+        Some((first, rest)) if may_begin(*first) => 1 + further_run(rest),
+        _ => 0,
     }
-    if !may_begin(s[0]) {
-        return 0;
-    }
-    let mut i = 1;
-    while i < s.len() {
-        if !may_follow(s[i]) {
-            return i;
-        }
-        i += 1;
-    }
-    i
 }

@@ -2,15 +2,28 @@
 use Prim.Native.Nat.{ℕ, zero, suc, ◌+◌, ◌-◌, ◌≤◌, ◌<◌}
 use native.Mathlib.Nat.{eq-or-lt_of_le}
 use native.Mathlib.Omega.{arith}
+use borrow.Author.Tests.{eqb-true, eqb-false}
 use mathlib.Core.Path.{◌≡◌, refl, sym, ap, subst, ◌∙◌}
-use mathlib.Core.Logic.{◌≢◌, ⊎_elim}
-use mathlib.Core.Bool.{false≢true}
+use mathlib.Core.Logic.{◌≢◌, ◌⊎◌, inl, inr, ⊎_elim}
+use mathlib.Core.Bool.{Bool, true, false, ◌&&◌, false≢true}
 use mathlib.Core.List.{List, [], ◌∷◌, ◌++◌}
-use lib.ListN.{length, take, get_or, replicate, length-append, length-replicate, get_or-append, get_or-eq_default}
+use lib.ListN.{length, take, drop, get_or, replicate, length-append, length-drop, length-replicate, get_or-append}
 use lib.Seq.{ext_get_or, get_or-append-add, get_or-take, length-take-le}
+use Rattle.std.specs.Prelude.{nat_eq, ◌==◌, Some}
+use Rattle.std.specs.List.{list_all, starts_with}
+use Rattle.std.specs.Ordering.{is_lt, is_some_and, nat_cmp, partial_ordering_then, MatchOrdering}
+use Rattle.std.specs.Cmp.Lexicographic.{slice_partial_cmp}
+use Rattle.std.specs.declared.cmp.Ordering.{Ordering}
+use Rattle.std.specs.declared.cmp.Ordering.TheVariants.{Less, Equal, Greater}
+use Rattle.std.proofs.lemmas.Cmp.{ranked}
+use Rattle.std.proofs.lemmas.List.{get_or-drop, take_rest}
+use Rattle.std.proofs.lemmas.Bool.Decides.{Decides-eqb}
+use Rattle.std.proofs.lemmas.Slice.Eq.{starts_is}
+use Rattle.meaning.specs.Answers.{Decides, holds, fails}
 use Rattle.meaning.specs.Limits.{most_name}
 use Rattle.meaning.specs.Names.{initial, further, is_name, Name, filled, Sooner}
 use Rattle.meaning.specs.Ends.{NoFurther}
+use Rattle.meaning.proofs.Decide.{decides_as}
 use Rattle.meaning.proofs.Laws.Bytes.{zero_at}
 use Rattle.name.specs.Runs.{name_run}
 use Rattle.name.proofs.RunLaws.{run_name, run_of_name, run_within}
@@ -43,9 +56,42 @@ is_filled f n long short same zeros = ext_get_or 0 f (filled n) (long ∙ sym (f
 pub filled_zeros : (f n : List ℕ) → f ≡ filled n → ZeroFrom f (length n)
 filled_zeros f n e i l m = ap (λ (s : List ℕ). get_or s i 0) e ∙ filled_zero n i l
 
--- A field is no name of more than 16 bytes.
-pub not_longer : (f n : List ℕ) → length f ≡ most_name → most_name < length n → f ≡ filled n → ⊥
-not_longer f n long h e = omega (arith, ap length e, length-append n (replicate (most_name - length n) 0))
+-- A field begins with the bytes of a name that stands in it, filled up.
+pub filled_begins : (f n : List ℕ) (r : Bool) → r ≡ starts_with nat_eq f n → f ≡ filled n → r ≡ true
+filled_begins f n r e h = (starts_is Decides-eqb f n r e).1 (replicate (most_name - length n) 0) h
+
+-- A field that begins with a name's bytes, and has zeros behind them, is the name filled up, and not otherwise.
+pub is_filled_by : (f n : List ℕ) (r zeros : Bool) → length f ≡ most_name → r ≡ starts_with nat_eq f n → r ≡ true → length n ≤ length f → Decides (ZeroFrom f (length n)) zeros → Decides (f ≡ filled n) zeros
+is_filled_by f n r zeros long e begun l d = decides_as (is_filled f n long (omega arith) same) (filled_zeros f n) d
+  where
+    begins : f ≡ n ++ drop (length n) f
+    begins = (starts_is Decides-eqb f n r e).0 begun
+
+    same : (i : ℕ) → i < length n → get_or f i 0 ≡ get_or n i 0
+    same i m = ap (λ (s : List ℕ). get_or s i 0) begins ∙ get_or-append n (drop (length n) f) 0 i m
+
+-- Bytes are all zero where each passes that test.
+zeros_decide : (s : List ℕ) → Decides (ZeroFrom s 0) (list_all (λ byte. byte == 0) s)
+zeros_decide [] = holds (λ i a l. absurd (omega arith))
+zeros_decide (b ∷ s) = go (b == 0) refl (zeros_decide s)
+  where
+    all : b ≡ 0 → ZeroFrom s 0 → ZeroFrom (b ∷ s) 0
+    all e h zero a l = e
+    all e h (suc i) a l = h i (omega arith) (omega arith)
+
+    go : (v : Bool) → (b == 0) ≡ v → Decides (ZeroFrom s 0) (list_all (λ byte. byte == 0) s) → Decides (ZeroFrom (b ∷ s) 0) (v && list_all (λ byte. byte == 0) s)
+    go true e d = decides_as (all (eqb-true b 0 e)) (λ h i a l. h (suc i) (omega arith) (omega arith)) d
+    go false e d = fails (λ h. eqb-false b 0 e (h 0 (omega arith) (omega arith)))
+
+-- So are those from place n on where each behind the first n does.
+pub zeros_from : (s : List ℕ) (n : ℕ) (r : Bool) → n ≤ length s → r ≡ list_all (λ byte. byte == 0) (take (length s - n) (drop n s)) → Decides (ZeroFrom s n) r
+zeros_from s n r l e = rw (e, take_rest s n) (decides_as there back (zeros_decide (drop n s)))
+  where
+    there : ZeroFrom (drop n s) 0 → ZeroFrom s n
+    there h i a m = let k : i ≡ n + (i - n) = omega arith in ap (λ (j : ℕ). get_or s j 0) k ∙ sym (get_or-drop n s (i - n) 0) ∙ h (i - n) (omega arith) (omega (arith, length-drop n s))
+
+    back : ZeroFrom s n → ZeroFrom (drop n s) 0
+    back h i a m = get_or-drop n s i 0 ∙ h (n + i) (omega arith) (omega (arith, length-drop n s))
 
 -- Zeros are no characters of a name.
 zeros_stop : (k : ℕ) → NoFurther (replicate k 0)
@@ -84,39 +130,36 @@ module _ (f : List ℕ) (r : ℕ) (run : r ≡ name_run f) where
   pub named_zeros : HasName f → ZeroFrom f r
   named_zeros h i l = filled_zeros f h.name h.here i (omega (arith, run_is h))
 
--- Two fields have the same bytes up to place k.
-pub record SameTo (x y : List ℕ) (k : ℕ) : Type 0 where
-  pub k_le : k ≤ most_name
-  pub same : (i : ℕ) → i < k → get_or x i 0 ≡ get_or y i 0
+-- What `<` tests of two lists: the first pair of bytes that differ decides.
+abbrev before : List ℕ → List ℕ → Bool
+before x y = is_some_and is_lt (slice_partial_cmp (λ a b. Some (nat_cmp a b)) x y)
 
--- Up to place 0 they have.
-pub same_begin : (x y : List ℕ) → SameTo x y 0
-same_begin x y = record { k_le = omega arith; same = λ i l. absurd (omega arith) }
-
--- The next byte of two fields that are the same up to it.
-module _ (x y : List ℕ) (k : ℕ) (w : SameTo x y k) where
-  -- It is less in x: x comes first.
-  pub sooner_yes : get_or x k 0 < get_or y k 0 → Sooner x y
-  sooner_yes h = record { place = k; same = w.same; less = h }
-
-  -- It is less in y: x does not come first.
-  pub sooner_no : get_or y k 0 < get_or x k 0 → Sooner x y → ⊥
-  sooner_no h s =
-      ⊎_elim (λ l. omega (arith, s.less, w.same s.place l))
-      (λ l. ⊎_elim (λ e. omega (arith, s.less, ap (λ (i : ℕ). get_or x i 0) e, ap (λ (i : ℕ). get_or y i 0) e)) (λ m. omega (arith, s.same k m)) (eq-or-lt_of_le l))
-      (below_or_not s.place k)
-
-  -- It is the same in both: they are the same up to the place behind it.
-  pub same_on : k < most_name → get_or x k 0 ≤ get_or y k 0 → get_or y k 0 ≤ get_or x k 0 → SameTo x y (k + 1)
-  same_on l a b = record {
-    k_le = omega arith;
-    same = λ i m. ⊎_elim (λ e. ap (λ (j : ℕ). get_or x j 0) e ∙ both ∙ ap (λ (j : ℕ). get_or y j 0) (sym e)) (λ n. w.same i n) (eq-or-lt_of_le {n = i} {m = k} (omega arith));
-  }
+-- Two fields by their first bytes and what is behind these.
+module _ (a b : ℕ) (x y : List ℕ) where
+  -- Where the first bytes are the same the others decide.
+  sooner_behind : a ≡ b → Sooner x y → Sooner (a ∷ x) (b ∷ y)
+  sooner_behind e s = record { place = suc s.place; same = same; less = s.less }
     where
-      both : get_or x k 0 ≡ get_or y k 0
-      both = omega arith
+      same : (i : ℕ) → i < suc s.place → get_or (a ∷ x) i 0 ≡ get_or (b ∷ y) i 0
+      same zero l = e
+      same (suc i) l = s.same i (omega arith)
 
-  -- There is none, since they are fields of 16 bytes: neither comes first.
-  pub sooner_equal : length y ≡ most_name → most_name ≤ k → Sooner x y → ⊥
-  sooner_equal long h s =
-      ⊎_elim (λ l. omega (arith, s.less, w.same s.place l)) (λ l. omega (arith, s.less, get_or-eq_default y 0 {n = s.place} (omega arith))) (below_or_not s.place k)
+  -- Otherwise the first bytes do.
+  sooner_at : Sooner (a ∷ x) (b ∷ y) → (a < b) ⊎ ((a ≡ b) × Sooner x y)
+  sooner_at s = go s.place s.same s.less
+    where
+      go : (place : ℕ) → ((i : ℕ) → i < place → get_or (a ∷ x) i 0 ≡ get_or (b ∷ y) i 0) → get_or (a ∷ x) place 0 < get_or (b ∷ y) place 0 → (a < b) ⊎ ((a ≡ b) × Sooner x y)
+      go zero same less = inl less
+      go (suc place) same less = inr (same 0 (omega arith), record { place = place; same = λ i l. same (suc i) (omega arith); less = less })
+
+-- So `<` decides which of two names in fields comes first: they are equally long, so that neither ends before the other.
+pub sooner_decides : (x y : List ℕ) → length x ≡ length y → Decides (Sooner x y) (before x y)
+sooner_decides [] [] e = fails (λ s. absurd (omega (arith, s.less)))
+sooner_decides [] (b ∷ y) e = absurd (omega arith)
+sooner_decides (a ∷ x) [] e = absurd (omega arith)
+sooner_decides (a ∷ x) (b ∷ y) e = go (nat_cmp a b) (ranked a b (nat_cmp a b) refl) (sooner_decides x y (omega arith))
+  where
+    go : (o : Ordering) → MatchOrdering o (a < b) (a ≡ b) (b < a) → Decides (Sooner x y) (before x y) → Decides (Sooner (a ∷ x) (b ∷ y)) (is_some_and is_lt (partial_ordering_then (Some o) (slice_partial_cmp (λ c d. Some (nat_cmp c d)) x y)))
+    go Less h d = holds (record { place = 0; same = λ i l. absurd (omega arith); less = h })
+    go Equal h d = decides_as (sooner_behind a b x y h) (λ s. ⊎_elim (λ l. absurd (omega arith)) (λ t. t.1) (sooner_at a b x y s)) d
+    go Greater h d = fails (λ s. ⊎_elim (λ l. omega arith) (λ t. omega (arith, t.0)) (sooner_at a b x y s))

@@ -1,20 +1,16 @@
--- A byte that differs answers no. Where the name's own bytes are there, what stands behind them decides.
-use Rattle.std.proofs.Common.{◌≡◌, ℕ, List, length, get_or, ap, ◌∙◌, arith}
+-- `filled::is_filled` meets its contract: a field that begins otherwise is not the name, and where it does what stands behind decides.
+use Rattle.std.proofs.Common.{◌≡◌, sym, ◌∙◌, subst, Bool}
+use Rattle.std.proofs.lemmas.Bool.{false≢true}
+use Rattle.meaning.specs.Names.{filled}
 use Rattle.meaning.specs.Answers.{Decides, fails}
-use Rattle.meaning.proofs.Decide.{decides_as}
-use Rattle.filled.specs.Fields.{ZeroFrom}
-use Rattle.filled.proofs.FieldLaws.{is_filled, filled_byte, filled_zeros}
+use Rattle.filled.proofs.FieldLaws.{filled_begins, is_filled_by, zeros_from}
 use Rattle.filled.proofs.is_filled.Goals as goal
 
-pub returns-then-field-i : goal.returns-then-field-i
-returns-then-field-i c =
-    let i = c.loop-i.i in
-    fails (λ e. c.if-field-i.true (ap (λ (f : List ℕ). get_or f i 0) e ∙ filled_byte c.args.name.now i (omega arith)))
+pub returns-then-starts_with : goal.returns-then-starts_with
+returns-then-starts_with c =
+    is_filled_by c.args.field.now c.args.name.now c.starts_with.result _ c.requires c.starts_with.ensures.value c.if-starts_with.true (c.starts_with.ensures.bound c.if-starts_with.true) (zeros_from _ _ _ (c.starts_with.ensures.bound c.if-starts_with.true) c.all_zero.ensures)
 
-pub returns : goal.returns
-returns c =
-    let f = c.args.field.now in
-    let n = c.args.name.now in
-    let e : c.loop-i.i ≡ length n = omega arith in
-    let d : Decides (ZeroFrom f (length n)) c.zero_from.result = rw (← e) c.zero_from.ensures in
-    decides_as (is_filled f n c.requires (omega arith) (λ i m. c.loop-i.invariant.1 i (omega arith))) (filled_zeros f n) d
+pub returns-else-starts_with : goal.returns-else-starts_with
+returns-else-starts_with c =
+    let no = c.if-starts_with.false in
+    subst (λ (r : Bool). Decides (c.args.field.now ≡ filled c.args.name.now) r) (sym no) (fails (λ h. false≢true (sym no ∙ filled_begins _ _ _ c.starts_with.ensures.value h)))

@@ -6,20 +6,20 @@ use borrow.Author.Tests.{lt-ltb, le-ltb}
 use mathlib.Core.Path.{◌≡◌, refl, sym, subst}
 use mathlib.Core.Bool.{Bool, cond}
 use mathlib.Core.List.{List}
+use Rattle.std.specs.Prelude.{Option, Some, None}
+use Rattle.meaning.specs.declared.Label.{Label}
 use Rattle.meaning.specs.Day.{label_at}
-use Rattle.reader.specs.declared.Next.{Next}
-use Rattle.reader.specs.declared.Next.TheVariants.{Label, End}
 use Rattle.reader.specs.Reading.{labels, next_at}
 
 -- What is known of a body and a place when this comes next there.
-abbrev pub Says : List ℕ → ℕ → Next → Type 0
-Says b at (Label start end) = (at < labels b) × (start ≡ (label_at b 0 at).start) × (end ≡ (label_at b 0 at).end)
-Says b at End = labels b ≤ at
+abbrev pub Says : List ℕ → ℕ → Option Label → Type 0
+Says b at (Some label) = (at < labels b) × (label ≡ label_at b 0 at)
+Says b at None = labels b ≤ at
 
 -- What comes next says so.
 pub next_says : (b : List ℕ) (at : ℕ) → Says b at (next_at b at)
 next_says b at = go (dec_le (labels b) at)
   where
     go : Dec (labels b ≤ at) → Says b at (next_at b at)
-    go (yes l) = subst (λ (t : Bool). Says b at (cond t (Label (label_at b 0 at).start (label_at b 0 at).end) End)) (sym (le-ltb _ _ l)) l
-    go (no h) = subst (λ (t : Bool). Says b at (cond t (Label (label_at b 0 at).start (label_at b 0 at).end) End)) (sym (lt-ltb _ _ (lt_of_not-le h))) (lt_of_not-le h, refl, refl)
+    go (yes l) = subst (λ (t : Bool). Says b at (cond t (Some (label_at b 0 at)) None)) (sym (le-ltb _ _ l)) l
+    go (no h) = subst (λ (t : Bool). Says b at (cond t (Some (label_at b 0 at)) None)) (sym (lt-ltb _ _ (lt_of_not-le h))) (lt_of_not-le h, refl)

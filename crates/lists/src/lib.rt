@@ -8,48 +8,18 @@ ghost use Rattle.contents.specs.Parts.{Placed};
 ghost use Rattle.lists.specs.Ordering.{BodyWrong, ListWrong, Looked};
 
 use contents::rows;
-use reader::Next;
+use meaning::Label;
+use reader::Reader;
 
-// What the look at a list has found so far.
-#[derive(Clone, Copy)]
-pub struct Look {
-    // Whether it goes on, and else whether the list is wrong.
-    pub going: bool,
-    pub wrong: bool,
-    // The next label has to start here or later.
-    pub low: u32,
-}
-
-// The look at what comes next, with all its decisions: a label with start ≥ end is wrong, and so is one that starts before `low`.
-fn look_at(next: Next, low: u32) -> Look
-    ensures { Looked low next result }
+// Where the label after this one has to start at the earliest, where this one has to start at `low` or later; none where it does not, or where it
+// does not end after it starts.
+fn next_low(label: Label, low: u32) -> Option<u32>
+    ensures { Looked low label result }
 {
-    let Next::Label { start, end } = next else {
-        return Look {
-            going: false,
-            wrong: false,
-            low: 0,
-        };
-    };
-    if end <= start {
-        return Look {
-            going: false,
-            wrong: true,
-            low: 0,
-        };
-    }
-    let early = start < low;
-    if early {
-        return Look {
-            going: false,
-            wrong: true,
-            low: 0,
-        };
-    }
-    Look {
-        going: true,
-        wrong: false,
-        low: start + 1,
+    if low <= label.start && label.start < label.end {
+        Some(label.start + 1)
+    } else {
+        None
     }
 }
 
@@ -57,18 +27,20 @@ fn look_at(next: Next, low: u32) -> Look
 fn body_wrong(body: &[u8]) -> bool
     ensures { Decides (BodyWrong body.now) result }
 {
-    let mut reader = reader::new(body);
-    let mut look = look_at(reader::hand_out(reader), 0);
-    while look.going {
-        reader = reader::moved_on(reader);
-        look = look_at(reader::hand_out(reader), look.low);
+    let mut low = 0;
+    for label in Reader::new(body) {
+        match next_low(label, low) {
+            Some(next) => low = next,
+            None => return true,
+        }
     }
-    look.wrong
+    false
 }
 
 // Whether list r is wrong by itself.
 fn list_wrong(index: &[u8], r: usize) -> bool
-    requires { Placed index.now × (r < tags index.now) }
+    requires placed { Placed index.now }
+    requires below { r < tags index.now }
     ensures { Decides (ListWrong (lists_of index.now) r) result }
 {
     body_wrong(rows::body_of(index, r))
@@ -79,13 +51,10 @@ pub fn lists_wrong(index: &[u8]) -> bool
     requires { Placed index.now }
     ensures { Decides (WrongLists index.now) result }
 {
-    let m = rows::tags_of(index);
-    let mut r = 0;
-    while r < m {
+    for r in 0..rows::tags_of(index) {
         if list_wrong(index, r) {
             return true;
         }
-        r += 1;
     }
     false
 }

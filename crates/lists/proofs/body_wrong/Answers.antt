@@ -1,9 +1,13 @@
--- `lists::body_wrong` meets its contract: each look keeps what is found at the place of the reader that it was handed out by.
-use Rattle.lists.proofs.Looking.{kept_first, kept_on}
+-- `lists::body_wrong` meets its contract: a label that is right keeps the loop, one that is wrong settles it, and the end does otherwise.
+use Rattle.meaning.specs.Answers.{holds, fails}
+use Rattle.lists.proofs.Looking.{kept_on, kept_wrong, kept_end}
 use Rattle.lists.proofs.body_wrong.Goals as goal
 
-pub loop-look-init : goal.loop-look-init
-loop-look-init c = kept_first c.args.body _ _ _ c.new-reader.ensures c.hand_out.ensures c.look_at-look.ensures
+pub loop-label-preserved : goal.loop-label-preserved
+loop-label-preserved c = kept_on _ _ _ _ c.loop-label.invariant _ _ c.in-Some.ensures.steps c.in-Some-next_low.ensures
 
-pub loop-look-preserved : goal.loop-look-preserved
-loop-look-preserved c = kept_on _ c.loop-look.reader _ _ _ _ c.loop-look.invariant c.loop-look-test.true c.moved_on-reader.ensures c.hand_out-in-loop-look.ensures c.look_at-look-in-loop-look.ensures
+pub returns-in-None-next_low : goal.returns-in-None-next_low
+returns-in-None-next_low c = holds (kept_wrong _ _ _ _ c.loop-label.invariant _ c.in-Some.ensures.steps c.in-None-next_low.ensures)
+
+pub returns : goal.returns
+returns c = fails (kept_end _ _ _ _ c.loop-label.invariant c.in-None.ensures.steps)

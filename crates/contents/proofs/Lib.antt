@@ -1,6 +1,4 @@
 -- What the functions' proofs rest on, with no mention of code.
-pub mod Bounds
-pub mod FieldLaws
 pub mod Placing
 pub mod FindLaws
 pub mod BodyLaws

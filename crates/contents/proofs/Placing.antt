@@ -2,14 +2,18 @@
 use Prim.Native.Nat.{ℕ, zero, suc, ◌+◌, ◌*◌, ◌-◌, ◌≤◌, ◌<◌}
 use native.Mathlib.Omega.{arith}
 use mathlib.Core.Path.{◌≡◌, refl, ap}
-use mathlib.Core.Logic.{inl, inr}
+use mathlib.Core.Logic.{inl, inr, ⊎_elim}
 use mathlib.Core.List.{List}
 use lib.ListN.{length}
 use Rattle.meaning.specs.Limits.{most_tags, most_labels}
 use Rattle.meaning.specs.Day.{tags, count, labels, total, offset, body_at, row_at, WrongContents, WrongLength}
 use Rattle.meaning.specs.Refusals.{Lawful}
+use Rattle.meaning.proofs.Decide.{or_not, eq_decides}
 use Rattle.contents.specs.Parts.{Placed}
-use Rattle.contents.proofs.Bounds.{not_below, not_different}
+
+-- What is not different is equal.
+not_different : (i n : ℕ) → ((i ≡ n → ⊥) → ⊥) → i ≡ n
+not_different i n h = ⊎_elim (λ e. e) (λ d. absurd (h d)) (or_not (eq_decides i n))
 
 -- One row more has its own labels more.
 pub labels_suc : (b : List ℕ) (r : ℕ) → labels b (suc r) ≡ labels b r + count b r
@@ -42,9 +46,11 @@ placed_by b few rows place small long = record {
 -- An index that refusals 3 and 4 do not apply to has every list within it.
 pub placed_unless : (b : List ℕ) → (WrongContents b → ⊥) → (WrongLength b → ⊥) → Placed b
 placed_unless b no₃ no₄ =
-    placed_by b (not_below (most_tags) (tags b) (λ l. no₃ (inl l))) (not_below (length b) (row_at (tags b)) (λ l. no₃ (inr (inl l))))
-    (λ r l. not_different (offset b r) (body_at b r) (λ d. no₃ (inr (inr (inl (r, l, λ w. d w.place))))))
-    (not_below most_labels (total b) (λ l. no₃ (inr (inr (inr l))))) (not_different (length b) (row_at (tags b) + 8 * total b) no₄)
+    let few : most_tags < tags b → ⊥ = λ l. no₃ (inl l) in
+    let rows : length b < row_at (tags b) → ⊥ = λ l. no₃ (inr (inl l)) in
+    let small : most_labels < total b → ⊥ = λ l. no₃ (inr (inr (inr l))) in
+    placed_by b (omega arith) (omega arith) (λ r l. not_different (offset b r) (body_at b r) (λ d. no₃ (inr (inr (inl (r, l, λ w. d w.place))))))
+    (omega arith) (not_different (length b) (row_at (tags b) + 8 * total b) no₄)
 
 -- So has a lawful index.
 pub lawful_placed : (b : List ℕ) → Lawful b → Placed b

@@ -1,7 +1,8 @@
-// The table of contents of a day index: its fields, and looking up a name.
+// The table of contents of a day index: its rows, and what a lawful day has under a name.
 #![tactic(auto)]
 
-mod by_name;
+mod lawful;
 pub mod rows;
 
-pub use by_name::{find, lookup};
+pub use lawful::{LawfulDay, find, lookup};
+pub use rows::Row;

@@ -1,4 +1,4 @@
-// The fields of the table of contents, and the body of a row.
+// The table of contents of an index: its head, its rows, and the bodies of their lists.
 ghost use Rattle.std.specs.Prelude.{◌≡◌, ◌+◌, ◌*◌, ◌<◌, ◌≤◌, length};
 ghost use Rattle.meaning.specs.Limits.{most_name};
 ghost use Rattle.meaning.specs.Day.{tags, version, name_field, offset, count, row_at, row_list};
@@ -21,53 +21,62 @@ pub fn version_of(index: &[u8]) -> u32
     label::u16_at(index, 2)
 }
 
-// The name of row r, as a part of the index.
-pub fn name_field(index: &[u8], r: usize) -> &[u8]
-    requires { row_at r + 24 ≤ length index.now }
-    ensures { (result.now ≡ name_field index.now r) × (length result.now ≡ most_name) }
-{
-    let at = Index::HEAD_BYTES + Index::ROW_BYTES * r;
-    &index[at..at + Name::MOST_BYTES]
+// A row of an index that holds the whole of it.
+#[derive(Clone, Copy)]
+pub struct Row<'a> {
+    pub index: &'a [u8],
+    pub number: usize,
+    pub ghost within: { row_at number + 24 ≤ length index.now },
 }
 
-// Where the body of row r begins.
-pub fn offset_of(index: &[u8], r: usize) -> usize
-    requires { row_at r + 24 ≤ length index.now }
-    ensures { (result ≡ offset index.now r) × (result < 4294967296) }
-{
-    label::u32_at(
-        index,
-        Index::HEAD_BYTES + Index::ROW_BYTES * r + Index::OFFSET_AT,
-    ) as usize
-}
+impl<'a> Row<'a> {
+    // Where the row begins.
+    fn place(self) -> usize
+        ensures { result ≡ row_at self.entry.number }
+    {
+        Index::HEAD_BYTES + Index::ROW_BYTES * self.number
+    }
 
-// How many labels row r has.
-pub fn count_of(index: &[u8], r: usize) -> usize
-    requires { row_at r + 24 ≤ length index.now }
-    ensures { (result ≡ count index.now r) × (result < 4294967296) }
-{
-    label::u32_at(
-        index,
-        Index::HEAD_BYTES + Index::ROW_BYTES * r + Index::COUNT_AT,
-    ) as usize
-}
+    // Its name, as a part of the index.
+    pub fn name_field(self) -> &'a [u8]
+        ensures value { result.now ≡ name_field self.entry.index.now self.entry.number }
+        ensures long { length result.now ≡ most_name }
+    {
+        let at = self.place();
+        &self.index[at..at + Name::MOST_BYTES]
+    }
 
-// Where the body of row r ends.
-pub fn end_of(index: &[u8], r: usize) -> usize
-    requires { row_at r + 24 ≤ length index.now }
-    ensures { result ≡ offset index.now r + 8 * count index.now r }
-{
-    offset_of(index, r) + Label::BYTES * count_of(index, r)
-}
+    // Where its body begins.
+    pub fn offset(self) -> usize
+        ensures value { result ≡ offset self.entry.index.now self.entry.number }
+        ensures most { result < 4294967296 }
+    {
+        label::u32_at(self.index, self.place() + Index::OFFSET_AT) as usize
+    }
 
-// The list of row r: where its body begins, and its number of labels.
-pub fn list_of(index: &[u8], r: usize) -> Body
-    requires { row_at r + 24 ≤ length index.now }
-    ensures { result ≡ row_list index.now r }
-{
-    Body {
-        offset: offset_of(index, r),
-        count: count_of(index, r),
+    // How many labels it has.
+    pub fn count(self) -> usize
+        ensures value { result ≡ count self.entry.index.now self.entry.number }
+        ensures most { result < 4294967296 }
+    {
+        label::u32_at(self.index, self.place() + Index::COUNT_AT) as usize
+    }
+
+    // Where its body ends.
+    pub fn end(self) -> usize
+        ensures { result ≡ offset self.entry.index.now self.entry.number + 8 * count self.entry.index.now self.entry.number }
+    {
+        self.offset() + Label::BYTES * self.count()
+    }
+
+    // Its list: where its body begins, and its number of labels.
+    pub fn list(self) -> Body
+        ensures { result ≡ row_list self.entry.index.now self.entry.number }
+    {
+        Body {
+            offset: self.offset(),
+            count: self.count(),
+        }
     }
 }
 
@@ -81,10 +90,28 @@ pub fn body_at(index: &[u8], list: Body) -> &[u8]
     &index[from..to]
 }
 
+// Where the body of row r begins.
+pub fn offset_of(index: &[u8], r: usize) -> usize
+    requires { row_at r + 24 ≤ length index.now }
+    ensures value { result ≡ offset index.now r }
+    ensures most { result < 4294967296 }
+{
+    Row { index, number: r }.offset()
+}
+
+// Where the body of row r ends.
+pub fn end_of(index: &[u8], r: usize) -> usize
+    requires { row_at r + 24 ≤ length index.now }
+    ensures { result ≡ offset index.now r + 8 * count index.now r }
+{
+    Row { index, number: r }.end()
+}
+
 // The body of row r.
 pub fn body_of(index: &[u8], r: usize) -> &[u8]
-    requires { Placed index.now × (r < tags index.now) }
+    requires placed { Placed index.now }
+    requires row { r < tags index.now }
     ensures { result.now ≡ row_body index.now r }
 {
-    body_at(index, list_of(index, r))
+    body_at(index, Row { index, number: r }.list())
 }

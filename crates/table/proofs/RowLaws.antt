@@ -5,7 +5,8 @@ use native.Mathlib.Omega.{arith}
 use borrow.Author.Count.{below_more}
 use mathlib.Core.Path.{◌≡◌, refl, sym, ap, subst, ◌∙◌}
 use mathlib.Core.Logic.{◌≢◌, ⊎_elim}
-use mathlib.Core.Bool.{Bool, true}
+use mathlib.Core.Bool.{Bool}
+use Rattle.std.specs.Prelude.{Some}
 use mathlib.Core.List.{List}
 use Rattle.meaning.specs.Names.{Sooner}
 use Rattle.meaning.specs.Day.{tags, count, labels, offset, body_at, name_field, RowRight}
@@ -60,5 +61,5 @@ counted_on b r n v w l right e f = record {
 }
 
 -- Behind the last row all are counted.
-pub counted_end : (b : List ℕ) (r n : ℕ) → Counted b r n → tags b ≤ r → AllRows b true n
+pub counted_end : (b : List ℕ) (r n : ℕ) → Counted b r n → tags b ≤ r → AllRows b (Some n)
 counted_end b r n w l = let e : r ≡ tags b = omega (arith, w.r_le) in (λ k m. w.right k (omega arith), w.n_is ∙ ap (labels b) e)

@@ -6,17 +6,22 @@ use mathlib.Core.Logic.{inl, inr}
 use mathlib.Core.List.{List}
 use lib.ListN.{length}
 use Rattle.meaning.specs.Limits.{most_tags, most_labels}
+use Rattle.std.specs.Prelude.{Ok, Err}
 use Rattle.meaning.specs.Day.{tags, version, row_at, total, RowRight, TooShort, OtherVersion, WrongContents, WrongLength}
-use Rattle.meaning.specs.Refusals.{Clear, Verdict, clear, given}
-use Rattle.meaning.proofs.Laws.Table.{Rising, zero_clear}
+use Rattle.meaning.specs.declared.refusal.Refusal.TheVariants as why
+use Rattle.meaning.specs.Refusals.{Clear, Judged}
 use Rattle.contents.specs.Parts.{Placed}
 use Rattle.contents.proofs.Placing.{placed_unless}
 use Rattle.table.specs.ContentsTable.{contents_table}
 
 module _ (b : List ℕ) where
+  -- What a test that succeeds gives.
+  abbrev done : Unit {0}
+  done = tt
+
   -- The index is too short.
-  pub refused_1 : TooShort b → Verdict (contents_table b) 1
-  refused_1 h = given (inl (h, refl))
+  pub refused_1 : TooShort b → Judged {A = Unit {0}} (contents_table b) (Err why.TooShort)
+  refused_1 h = inl (h, refl)
 
   -- It is long enough to have a version.
   module _ (long : 4 ≤ length b) where
@@ -25,8 +30,8 @@ module _ (b : List ℕ) where
     long_enough h = omega arith
 
     -- It has another version.
-    pub refused_2 : OtherVersion b → Verdict (contents_table b) 2
-    refused_2 h = given (inr (long_enough, inl (h, refl)))
+    pub refused_2 : OtherVersion b → Judged {A = Unit {0}} (contents_table b) (Err why.OtherVersion)
+    refused_2 h = inr (long_enough, inl (h, refl))
 
     -- It has version 1.
     module _ (one : version b ≡ 1) where
@@ -35,8 +40,8 @@ module _ (b : List ℕ) where
       same_version h = h one
 
       -- Its table of contents is wrong.
-      pub refused_3 : WrongContents b → Verdict (contents_table b) 3
-      refused_3 h = given (inr (long_enough, inr (same_version, inl (h, refl))))
+      pub refused_3 : WrongContents b → Judged {A = Unit {0}} (contents_table b) (Err why.WrongContents)
+      refused_3 h = inr (long_enough, inr (same_version, inl (h, refl)))
 
       -- Its table of contents is right.
       module _ (few : tags b ≤ most_tags) (rows : row_at (tags b) ≤ length b) (right : (r : ℕ) → r < tags b → RowRight b r) (small : total b ≤ most_labels) where
@@ -48,20 +53,12 @@ module _ (b : List ℕ) where
         right_contents (inr (inr (inr h))) = omega arith
 
         -- Its length is not the one that follows from the table.
-        pub refused_4 : WrongLength b → Verdict (contents_table b) 4
-        refused_4 h = given (inr (long_enough, inr (same_version, inr (right_contents, inl (h, refl)))))
+        pub refused_4 : WrongLength b → Judged {A = Unit {0}} (contents_table b) (Err why.WrongLength)
+        refused_4 h = inr (long_enough, inr (same_version, inr (right_contents, inl (h, refl))))
 
         -- Its length is that one: no reason of 1 to 4 applies.
-        pub accepted : length b ≡ row_at (tags b) + 8 * total b → Verdict (contents_table b) 0
-        accepted e = clear (long_enough, (same_version, (right_contents, ((λ h. h e), tt))))
-
--- The numbers of the table of contents ascend from 1.
-contents_rising : (b : List ℕ) → Rising 0 (contents_table b)
-contents_rising b = (omega arith, (omega arith, (omega arith, (omega arith, tt))))
-
--- Where 0 is given no reason of 1 to 4 applies.
-pub contents_clear : (b : List ℕ) (n : ℕ) → n ≡ 0 → Verdict (contents_table b) n → Clear (contents_table b)
-contents_clear b = zero_clear (contents_table b) (contents_rising b)
+        pub accepted : length b ≡ row_at (tags b) + 8 * total b → Judged {A = Unit {0}} (contents_table b) (Ok done)
+        accepted e = (long_enough, (same_version, (right_contents, ((λ h. h e), tt))))
 
 -- What they leave: every row and every list lies within the index.
 pub placed_of : (b : List ℕ) → Clear (contents_table b) → Placed b

@@ -3,111 +3,86 @@
 
 ghost use Rattle.std.specs.Prelude.{◌≡◌, ◌+◌, ◌*◌, ◌≤◌, ◌<◌, length};
 ghost use Rattle.meaning.specs.Limits.{most_tags};
-ghost use Rattle.meaning.specs.Day.{tags, row_at, offset, body_at, RowRight};
-ghost use Rattle.meaning.specs.Refusals.{Verdict};
+ghost use Rattle.meaning.specs.Day.{tags, row_at, body_at, RowRight};
+ghost use Rattle.meaning.specs.Refusals.{Judged};
 ghost use Rattle.meaning.specs.Answers.{Decides};
 ghost use Rattle.table.specs.ContentsTable.{contents_table};
 ghost use Rattle.table.specs.Tests.{InOrder, AllRows};
 
-use contents::rows::{count_of, name_field, offset_of, tags_of, version_of};
+use contents::Row;
+use contents::rows::{tags_of, version_of};
 use filled::{comes_before, has_name};
-use meaning::{Index, Label};
+use meaning::{Index, Label, Refusal};
 
-// Whether row r comes after the row before it, if there is one.
+// Whether a row comes after the row before it, if there is one.
 #[tactic(auto, using(crate::proofs::RowLaws::first_in_order, crate::proofs::RowLaws::later_in_order, meaning::specs::Answers::holds))]
-fn in_order(index: &[u8], r: usize) -> bool
-    requires { row_at r + 24 ≤ length index.now }
-    ensures { Decides (InOrder index.now r) result }
+fn in_order(row: Row) -> bool
+    ensures { Decides (InOrder row.entry.index.now row.entry.number) result }
 {
-    if r == 0 {
-        return true;
-    }
-    let last = name_field(index, r - 1);
-    let this = name_field(index, r);
-    comes_before(last, this)
+    row.number == 0
+        || {
+            let last = Row {
+                index: row.index,
+                number: row.number - 1,
+            };
+            comes_before(last.name_field(), row.name_field())
+        }
 }
 
-// Whether the body of row r begins at `place`. That may be more than the 32 bits of an offset can say, so the two are compared as usize.
-#[tactic(auto, using(meaning::proofs::Decide::decides_as, meaning::proofs::Decide::eq_decides))]
-fn begins_at(index: &[u8], r: usize, place: usize) -> bool
-    requires { row_at r + 24 ≤ length index.now }
-    ensures { Decides (offset index.now r ≡ place) result }
+// Whether a row is right, where its body has to begin at `place`. That may be more than the 32 bits of an offset can say, so the two are compared
+// as usize.
+fn row_right(row: Row, place: usize) -> bool
+    requires { place ≡ body_at row.index.now row.number }
+    ensures { Decides (RowRight row.entry.index.now row.entry.number) result }
 {
-    offset_of(index, r) == place
+    has_name(row.name_field()) && in_order(row) && row.offset() == place
 }
 
-// Whether row r is right, where its body has to begin at `place`.
-fn row_right(index: &[u8], r: usize, place: usize) -> bool
-    requires { (row_at r + 24 ≤ length index.now) × (place ≡ body_at index.now r) }
-    ensures { Decides (RowRight index.now r) result }
-{
-    if !has_name(name_field(index, r)) {
-        return false;
-    }
-    if !in_order(index, r) {
-        return false;
-    }
-    begins_at(index, r, place)
-}
-
-// What looking at all rows finds: whether they are right, and how many labels they have together.
-#[derive(Clone, Copy)]
-struct Rows {
-    ok: bool,
-    labels: usize,
-}
-
-// Looks at all rows. The sum is exact: 256 counts of 32 bits fit a usize many times over.
+// How many labels all rows have together, if each row is right. The sum is exact: 256 counts of 32 bits fit a usize many times over.
 #[tactic(auto, using(crate::proofs::RowLaws::counted_begin, crate::proofs::RowLaws::counted_on, crate::proofs::RowLaws::counted_end, meaning::proofs::Decide::if_not_true, meaning::proofs::Decide::if_not_false))]
-fn all_rows(index: &[u8], many: usize) -> Rows
-    requires { (many ≡ tags index.now) × (many ≤ most_tags) × (row_at many ≤ length index.now) }
-    ensures { AllRows index.now result.ok result.labels }
+fn all_labels(index: &[u8], many: usize) -> Option<usize>
+    requires all { many ≡ tags index.now }
+    requires few { many ≤ most_tags }
+    requires within { row_at many ≤ length index.now }
+    ensures { AllRows index.now result }
 {
     let bodies = Index::HEAD_BYTES + Index::ROW_BYTES * many;
     let mut labels = 0;
-    let mut r = 0;
-    while r < many {
-        if !row_right(index, r, bodies + Label::BYTES * labels) {
-            return Rows {
-                ok: false,
-                labels: 0,
-            };
+    for number in 0..many {
+        let row = Row { index, number };
+        if !row_right(row, bodies + Label::BYTES * labels) {
+            return None;
         }
-        labels += count_of(index, r);
-        r += 1;
+        labels += row.count();
     }
-    Rows { ok: true, labels }
+    Some(labels)
 }
 
-// The number of the first reason of 1 to 4 for which the index is refused, or 0.
+// Whether the index is refused for its table of contents, and for which of the first four reasons.
 #[tactic(auto, using(crate::proofs::TableLaws::refused_1, crate::proofs::TableLaws::refused_2, crate::proofs::TableLaws::refused_3, crate::proofs::TableLaws::refused_4, crate::proofs::TableLaws::accepted))]
-pub fn refusal(index: &[u8]) -> u32
-    ensures { Verdict (contents_table index.now) result }
+pub fn check(index: &[u8]) -> Result<(), Refusal>
+    ensures { Judged (contents_table index.now) result }
 {
     if index.len() < 4 {
-        return 1;
+        return Err(Refusal::TooShort);
     }
     if version_of(index) != 1 {
-        return 2;
+        return Err(Refusal::OtherVersion);
     }
     let many = tags_of(index);
     if Index::MOST_TAGS < many {
-        return 3;
+        return Err(Refusal::WrongContents);
     }
     let bodies = Index::HEAD_BYTES + Index::ROW_BYTES * many;
     if index.len() < bodies {
-        return 3;
+        return Err(Refusal::WrongContents);
     }
-    let rows = all_rows(index, many);
-    if !rows.ok {
-        return 3;
-    }
-    let labels = rows.labels;
+    let labels = all_labels(index, many).ok_or(Refusal::WrongContents)?;
     if Index::MOST_LABELS < labels {
-        return 3;
+        return Err(Refusal::WrongContents);
     }
     if index.len() != bodies + Label::BYTES * labels {
-        return 4;
+        return Err(Refusal::WrongLength);
     }
-    0
+    Ok(())
 }

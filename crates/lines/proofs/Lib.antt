@@ -1,5 +1,4 @@
 -- Why the parts that are written one behind the other are the line, and that it is fixed.
-pub mod AddLaws
 pub mod DigitLaws
 pub mod StepLaws
 pub mod Fixed

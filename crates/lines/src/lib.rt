@@ -1,48 +1,60 @@
 // The line that the program prints for a row of evidence.
 #![tactic(auto)]
 
-ghost use Rattle.std.specs.Prelude.{ℕ, ◌+◌, ◌*◌, ◌%◌, ◌≤◌, ◌<◌, ◌≡◌, [], ◌∷◌, length};
+ghost use Rattle.std.specs.Prelude.{ℕ, ◌+◌, ◌*◌, ◌%◌, ◌≤◌, ◌<◌, ◌≡◌, [], ◌∷◌, ◌++◌, length, count_by, nat_le};
 ghost use Rattle.meaning.specs.Limits.{most_steps};
 ghost use Rattle.meaning.specs.Day.{label_at};
 ghost use Rattle.meaning.specs.Bytes.{at};
 ghost use Rattle.meaning.specs.Printing.{digits};
-ghost use Rattle.lines.specs.Adding.{most_digits, most_record, Adds, Places, AddsNumber, AddsRecord, Written};
+ghost use Rattle.lines.specs.Adding.{most_digits, most_record, most_line, Places, AddsNumber, AddsRecord, Written};
 
 use meaning::{Label, Step};
+use std::marker::Model;
 
-// A line's text.
-#[derive(Clone, Copy)]
-pub struct Line {}
-
-impl Line {
-    // Most digits of a number of a label.
-    pub const MOST_DIGITS: usize = 10;
-
-    // Most bytes of a line: for each step two numbers, a colon, and a blank or the line feed.
-    pub const MOST_BYTES: usize = Step::MOST * (2 * Line::MOST_DIGITS + 2);
+// A line's text: what was written of it so far. For its callers it is the list of these bytes.
+#[derive(Drop)]
+pub struct Line {
+    bytes: [u8; Line::MOST_BYTES],
+    used: usize,
 }
 
-// Writes one byte at `to`, and answers the place behind it.
-fn put(line: &mut [u8], to: usize, byte: u8) -> usize
-    requires { to < length line.old }
-    ensures { Adds (byte ∷ []) line.old to line.new result }
+impl Model for Line {
+    ghost use Rattle.std.specs.Prelude.{ℕ, List, take, ◌≤◌};
+
+    ghost Value = { List ℕ };
+
+    ghost use Rattle.lines.specs.Adding.{most_line};
+
+    ghost view = { λ l. take l.used l.bytes };
+
+    ghost invariant = { λ l. l.used ≤ most_line };
+}
+
+// 10, 100 and so on, up to the last that a number of a label can reach.
+const POWERS: [u32; Line::MOST_DIGITS - 1] = [
+    10,
+    100,
+    1_000,
+    10_000,
+    100_000,
+    1_000_000,
+    10_000_000,
+    100_000_000,
+    1_000_000_000,
+];
+
+// How many of these powers a number reaches.
+fn reached(n: u32) -> usize
+    ensures { result ≡ count_by (λ p. nat_le p n) POWERS }
 {
-    line[to] = byte;
-    to + 1
+    POWERS.iter().filter(|power| **power <= n).count()
 }
 
-// How many decimal digits a number has.
+// How many decimal digits a number has: one more than there are powers that it reaches.
 fn places(n: u32) -> usize
     ensures { Places n result }
 {
-    let wide = n as u64;
-    let mut k = 1;
-    let mut power: u64 = 10;
-    while power <= wide {
-        power *= 10;
-        k += 1;
-    }
-    k
+    1 + reached(n)
 }
 
 // The last decimal digit of a number as a character.
@@ -52,63 +64,89 @@ fn digit(n: u32) -> u8
     b'0' + (n % 10) as u8
 }
 
-// Writes the last k decimal digits of a number at `to`, from the last to the first, and answers the place behind them.
-fn put_digits(line: &mut [u8], to: usize, n: u32, k: usize) -> usize
-    requires { to + k ≤ length line.old }
-    ensures { Adds (digits k n) line.old to line.new result }
+// Fills the bytes with the last decimal digits of a number, from the last to the first.
+fn put_digits(bytes: &mut [u8], n: u32)
+    ensures { bytes.new ≡ digits (length bytes.old) n }
 {
     let mut rest = n;
-    let mut done = 0;
-    while done < k {
-        done += 1;
-        line[to + (k - done)] = digit(rest);
+    for place in (0..bytes.len()).rev() {
+        bytes[place] = digit(rest);
         rest /= 10;
     }
-    to + k
 }
 
-// Writes a number at `to`, and answers the place behind it.
-fn put_number(line: &mut [u8], to: usize, n: u32) -> usize
-    requires { to + most_digits ≤ length line.old }
-    ensures { AddsNumber n line.old to line.new result }
-{
-    put_digits(line, to, n, places(n))
-}
+impl Line {
+    // Most digits of a number of a label.
+    pub const MOST_DIGITS: usize = 10;
 
-// Writes a record at `to`: its start, a colon, its end. Answers the place behind it.
-fn put_record(line: &mut [u8], to: usize, label: Label) -> usize
-    requires { to + most_record ≤ length line.old }
-    ensures { AddsRecord label line.old to line.new result }
-{
-    let colon = put_number(line, to, label.start);
-    let end = put(line, colon, b':');
-    put_number(line, end, label.end)
-}
+    // Most bytes of a line: for each step two numbers, a colon, and a blank or the line feed.
+    pub const MOST_BYTES: usize = Step::MOST * (2 * Line::MOST_DIGITS + 2);
 
-// Writes the line of the row of k list positions that stands in `rows` from `from` on, where `offsets` says where each step's body begins,
-// and answers how many bytes it has. The rest of the buffer stays.
-pub fn write_line(
-    index: &[u8],
-    k: usize,
-    offsets: &[usize; Step::MOST],
-    rows: &[u32],
-    from: usize,
-    line: &mut [u8; Line::MOST_BYTES],
-) -> usize
-    requires { (1 ≤ k) × (k ≤ most_steps) × (from + k ≤ length rows.now) × (length offsets.now ≡ most_steps) × ((s : ℕ) → s < k → at offsets.now s + 8 * at rows.now (from + s) + 8 ≤ length index.now) }
-    ensures { Written (λ s. label_at index.now (at offsets.now s) (at rows.now (from + s))) k line.old line.new result }
-{
-    let mut to = 0;
-    let mut s = 0;
-    while s < k {
-        let behind = 0 < s;
-        if behind {
-            to = put(line, to, b' ');
+    // A line of which nothing is written yet.
+    fn new() -> Line
+        ensures { result ≡ [] }
+    {
+        Line {
+            bytes: [0; Line::MOST_BYTES],
+            used: 0,
         }
-        let at = offsets[s];
-        let i = rows[from + s] as usize;
-        to = put_record(line, to, label::label_at(index, at, i));
-        s += 1;
     }
-    put(line, to, b'\n')
+
+    // What is written.
+    pub fn as_bytes(&self) -> &[u8]
+        ensures { result.now ≡ self.now }
+    {
+        &self.bytes[..self.used]
+    }
+
+    // Writes one byte more.
+    fn push(&mut self, byte: u8)
+        requires { length self.old < most_line }
+        ensures { self.new ≡ self.old ++ byte ∷ [] }
+    {
+        self.bytes[self.used] = byte;
+        self.used += 1;
+    }
+
+    // Writes a number.
+    fn push_number(&mut self, n: u32)
+        requires { length self.old + most_digits ≤ most_line }
+        ensures { AddsNumber n self.old self.new }
+    {
+        let end = self.used + places(n);
+        put_digits(&mut self.bytes[self.used..end], n);
+        self.used = end;
+    }
+
+    // Writes a record: its start, a colon, its end.
+    fn push_record(&mut self, label: Label)
+        requires { length self.old + most_record ≤ most_line }
+        ensures { AddsRecord label self.old self.new }
+    {
+        self.push_number(label.start);
+        self.push(b':');
+        self.push_number(label.end);
+    }
+
+    // The line of the row of list positions that stands in `rows` from `from` on, one for each of the offsets, which say where each step's body
+    // begins.
+    pub fn of_row(index: &[u8], offsets: &[usize], rows: &[u32], from: usize) -> Line
+        requires some { 1 ≤ length offsets.now }
+        requires few { length offsets.now ≤ most_steps }
+        requires ended { from + length offsets.now ≤ length rows.now }
+        requires labels { (s : ℕ) → s < length offsets.now → at offsets.now s + 8 * at rows.now (from + s) + 8 ≤ length index.now }
+        ensures { Written (λ s. label_at index.now (at offsets.now s) (at rows.now (from + s))) (length offsets.now) result }
+    {
+        let row = &rows[from..from + offsets.len()];
+        let mut line = Line::new();
+        for (s, (offset, i)) in offsets.iter().zip(row).enumerate() {
+            let behind = 0 < s;
+            if behind {
+                line.push(b' ');
+            }
+            line.push_record(label::label_at(index, *offset, *i as usize));
+        }
+        line.push(b'\n');
+        line
+    }
 }

@@ -1,10 +1,7 @@
--- What keeps the loop: `Spelling`, with the digits that are left.
-use Rattle.std.proofs.Common.{◌-◌}
-use Rattle.lines.proofs.DigitLaws.{Spelling}
+-- What keeps the loop: the digits that are left, with those that are done behind them, are the number's.
+use Rattle.std.proofs.Common.{◌≡◌, ◌++◌, length, drop}
+use Rattle.meaning.specs.Printing.{digits}
 use Rattle.lines.proofs.put_digits.Given as goal
 
-abbrev pub invariant-loop-done : goal.invariant-loop-done
-invariant-loop-done l = Spelling l.initial.line l.to l.n l.k l.line l.rest (l.k - l.done)
-
-abbrev pub decreases-loop-done : goal.decreases-loop-done
-decreases-loop-done l = l.k - l.done
+abbrev pub invariant-loop-place : goal.invariant-loop-place
+invariant-loop-place l = digits l.place l.rest ++ drop l.place l.bytes ≡ digits (length l.bytes) l.n

@@ -13,13 +13,6 @@ use Rattle.lines.proofs.Line.of_row.Goals.{then-behind, else-behind}
 abbrev labels_of : List ℕ → List ℕ → List ℕ → ℕ → ℕ → Label
 labels_of index offsets rows from s = label_at index (at offsets s) (at rows (from + s))
 
-pub label_at-requires : goal.label_at-requires
-label_at-requires c =
-    let f : c.in-Some.offset.now ∷ c.next.new.self.iter.a.rest.now ≡ c.loop-s.s-iterator.iter.a.rest.now = search rules in
-    let g : c.in-Some.i.now ∷ c.next.new.self.iter.b.rest.now ≡ c.loop-s.s-iterator.iter.b.rest.now = search rules in
-    let x = at_step c.args.offsets.now c.args.rows.now c.args.from c.loop-s.s-iterator.count _ _ _ _ (f ∙ c.loop-s.invariant.offsets_left) (g ∙ c.loop-s.invariant.row_left) in
-    omega (arith, x.offset_is, x.i_is, c.requires.labels c.loop-s.s-iterator.count x.within)
-
 pub loop-s-preserved : goal.loop-s-preserved
 loop-s-preserved c =
     let e : c.in-Some.s ≡ c.loop-s.s-iterator.count = search rules in
@@ -40,6 +33,13 @@ loop-s-preserved c =
       offsets_left = rw h x.offsets_are;
       row_left = rw h x.row_is;
     }
+
+pub label_at-requires : goal.label_at-requires
+label_at-requires c =
+    let f : c.in-Some.offset.now ∷ c.next.new.self.iter.a.rest.now ≡ c.loop-s.s-iterator.iter.a.rest.now = search rules in
+    let g : c.in-Some.i.now ∷ c.next.new.self.iter.b.rest.now ≡ c.loop-s.s-iterator.iter.b.rest.now = search rules in
+    let x = at_step c.args.offsets.now c.args.rows.now c.args.from c.loop-s.s-iterator.count _ _ _ _ (f ∙ c.loop-s.invariant.offsets_left) (g ∙ c.loop-s.invariant.row_left) in
+    omega (arith, x.offset_is, x.i_is, c.requires.labels c.loop-s.s-iterator.count x.within)
 
 pub push-requires-2 : goal.push-requires-2
 push-requires-2 c =

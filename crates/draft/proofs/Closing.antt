@@ -7,10 +7,10 @@ use mathlib.Core.List.{List}
 use lib.Dec.{eqb}
 use lib.ListN.{length, drop, get_or, drop_of_length-le}
 use denote.Ref.{Bor}
-use Rattle.std.specs.Prelude.{Option, Some, None, MatchOption}
+use Rattle.std.specs.Prelude.{Option, Some, None, MatchOption, IsTrue}
 use Rattle.std.specs.List.{HoldsAt}
 use Rattle.std.specs.Option.{option_eq}
-use Rattle.meaning.specs.Answers.{Decides, fails}
+use Rattle.meaning.specs.Answers.{Decides, holds, fails}
 use Rattle.meaning.proofs.Decide.{decides_as, eq_decides}
 use Rattle.meaning.specs.Ends.{Stops}
 use Rattle.draft.specs.Steps.{ShutAt}
@@ -38,3 +38,8 @@ module _ (t : List ℕ) (at : ℕ) where
   pub look_shuts : (o : Option (Bor ℕ)) (w : Bor ℕ) → MatchOption o (length t ≤ at) (λ x. (at < length t) × HoldsAt (λ y. x.now ≡ y) t at) → w.now ≡ 93 → Decides (ShutAt t at) (option_eq (λ x y. eqb x.now y.now) o (Some w))
   look_shuts None w h e = fails (end_open h)
   look_shuts (Some x) w h e = rw (e, h.1 0) (byte_shuts h.0)
+
+  -- A path can end exactly where no byte can be looked up or where it is `]`.
+  pub look_stops : (o : Option (Bor ℕ)) (r : Bool) → MatchOption o (length t ≤ at) (λ x. (at < length t) × HoldsAt (λ y. x.now ≡ y) t at) → (P : Bor ℕ → Type 0) → MatchOption o (IsTrue r) P → ((x : Bor ℕ) → P x → r ≡ eqb x.now 93) → Decides (Stops (drop at t)) r
+  look_stops None r h P e f = rw e (holds (end_stops h))
+  look_stops (Some x) r h P e f = rw (f x e, h.1 0) (shut_stops h.0 (byte_shuts h.0))

@@ -54,7 +54,7 @@ fn shuts(text: &[u8], at: usize) -> bool
 pub fn ends(text: &[u8], at: usize) -> bool
     ensures { Decides (Stops (drop at text.now)) result }
 {
-    at >= text.len() || shuts(text, at)
+    text.get(at).is_none_or(|byte| *byte == b']')
 }
 
 impl Draft {

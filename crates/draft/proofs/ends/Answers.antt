@@ -1,10 +1,7 @@
--- `draft::ends` meets its contract: at the text's end a path can end, and before it where a `]` stands.
-use Rattle.meaning.proofs.Decide.{le_decides, decides_as}
-use Rattle.draft.proofs.Closing.{end_stops, shut_stops}
+-- `draft::ends` meets its contract: a path can end where no byte can be looked up or where it is `]`.
+use Rattle.std.proofs.Common.{rules, tests}
+use Rattle.draft.proofs.Closing.{look_stops}
 use Rattle.draft.proofs.ends.Goals as goal
 
-pub returns-then-at-text : goal.returns-then-at-text
-returns-then-at-text c = decides_as (end_stops c.args.text.now c.args.at) (λ _. c.if-at-text.true) (le_decides _ _)
-
-pub returns-else-at-text : goal.returns-else-at-text
-returns-else-at-text c = shut_stops c.args.text.now c.args.at c.if-at-text.false c.shuts.ensures
+pub returns : goal.returns
+returns c = look_stops c.args.text.now c.args.at c.get.result _ c.get.ensures.lookup.3 _ c.is_none_or.ensures (λ x k. search (rules, tests))

@@ -1,5 +1,5 @@
 -- The tournament: its root is the least of its numbers, and after one of them changed only the nodes above it are played again.
-use Prim.Native.Nat.{ℕ, zero, suc, ◌+◌, ◌*◌, ◌/◌, ◌%◌, ◌-◌, ◌≤◌, ◌<◌}
+use Prim.Native.Nat.{ℕ, zero, suc, ◌+◌, ◌*◌, ◌/◌, ◌%◌, ◌-◌, ◌≤◌, ◌<◌, min}
 use native.Mathlib.Nat.{eq-or-lt_of_le, lt_of_not-le}
 use native.Mathlib.Decide.{dec_le, ℕ_discrete}
 use native.Mathlib.Omega.{arith}
@@ -102,13 +102,13 @@ played_all : (m : ℕ) (xs : List ℕ) → length xs ≡ nodes → Played m 0 xs
 unfolding Played
 played_all m xs len w = record { long = len; node = λ i p l. w i p l (λ e. omega arith) }
 
--- The first of two numbers is the lesser when it is at most the second.
-pub lesser_left : (a b : ℕ) → a ≤ b → Lesser a a b
-lesser_left a b l = record { left = omega arith; right = l; one = inl refl }
-
--- The second of two numbers is the lesser when it is below the first.
-pub lesser_right : (a b : ℕ) → b < a → Lesser b a b
-lesser_right a b l = record { left = omega arith; right = omega arith; one = inr refl }
+-- The lesser of two numbers is their minimum.
+pub lesser_min : (a b : ℕ) → Lesser (min a b) a b
+lesser_min a b = record { left = omega arith; right = omega arith; one = go (dec_le a b) }
+  where
+    go : Dec (a ≤ b) → (min a b ≡ a) ⊎ (min a b ≡ b)
+    go (yes l) = inl (omega arith)
+    go (no d) = let l = lt_of_not-le d in inr (omega arith)
 
 -- Which of two numbers stands first does not matter to which is the lesser.
 lesser_sym : (v a b : ℕ) → Lesser v a b → Lesser v b a

@@ -1,5 +1,5 @@
 -- A tournament of m numbers: they stand at m to 2m - 1, and each node from 1 to m - 1 holds the lesser of nodes 2i and 2i + 1.
-use Rattle.std.specs.Prelude.{ℕ, ◌+◌, ◌*◌, ◌≤◌, ◌<◌, ◌≡◌, ◌⊎◌, ◌≢◌, List, length}
+use Rattle.std.specs.Prelude.{ℕ, ◌+◌, ◌*◌, ◌≤◌, ◌<◌, ◌≡◌, ◌⊎◌, ◌≢◌, List, length, take, drop}
 use Rattle.meaning.specs.Bytes.{at}
 use Rattle.meaning.specs.Limits.{most_tags}
 
@@ -36,7 +36,17 @@ numbers = 4_294_967_296
 abbrev pub past : ℕ
 past = numbers * most_tags
 
--- The least of the m numbers: the root's, and where there is none, what stands for none.
-pub record Root (m : ℕ) (xs : List ℕ) (v : ℕ) : Type 0 where
-  pub some : 0 < m → v ≡ at xs 1
-  pub none : m ≡ 0 → v ≡ past
+-- The m numbers that play.
+abbrev pub leaves : ℕ → List ℕ → List ℕ
+leaves m xs = take m (drop m xs)
+
+-- What the fields of a tournament hold: not more players than there is room for, and every node the lesser of its two.
+pub record Bracket (m : ℕ) (xs : List ℕ) : Type 0 where
+  pub few : m ≤ most_tags
+  pub tree : Tree m xs
+
+-- The least of some numbers, and where there is none, what stands for none.
+pub record Least (xs : List ℕ) (v : ℕ) : Type 0 where
+  pub below : (j : ℕ) → j < length xs → v ≤ at xs j
+  pub one : 0 < length xs → (j : ℕ) × (j < length xs) × (at xs j ≡ v)
+  pub none : length xs ≡ 0 → v ≡ past

@@ -1,31 +1,39 @@
 // The least of up to MOST_TAGS numbers, kept while they change: after one of them has changed, only the nodes above it are played again.
-// The m numbers that play stand at m to 2m - 1; node i, from 1 to m - 1, holds the lesser of nodes 2i and 2i + 1.
 #![tactic(auto)]
 
-ghost use Rattle.std.specs.Prelude.{◌≡◌, ◌+◌, ◌*◌, ◌%◌, ◌<◌, ◌≤◌, length};
+ghost use Rattle.std.specs.Prelude.{◌≡◌, ◌+◌, ◌*◌, ◌%◌, ◌<◌, ◌≤◌, length, slice_set};
 ghost use Rattle.meaning.specs.Limits.{most_tags};
-ghost use Rattle.meaning.specs.Bytes.{at};
-ghost use Rattle.tournament.specs.Tournament.{Lesser, Tree, Put, SameLeaves, Root, nodes};
+ghost use Rattle.tournament.specs.Tournament.{Tree, SameLeaves, Least, nodes};
 
 use meaning::Index;
+use std::marker::Model;
 
 // How many places a tournament has.
-pub const NODES: usize = 2 * Index::MOST_TAGS;
+const NODES: usize = 2 * Index::MOST_TAGS;
 
 // Where the least number stands.
 const ROOT: usize = 1;
 
-// How many 32-bit numbers there are.
-const NUMBERS: u64 = 4_294_967_296;
-
 // What stands for none. Below it there are MOST_TAGS numbers for each number of 32 bits.
-pub const PAST: u64 = NUMBERS * (Index::MOST_TAGS as u64);
+pub const PAST: u64 = (u32::MAX as u64 + 1) * (Index::MOST_TAGS as u64);
 
-// The lesser of two numbers.
-fn lesser(a: u64, b: u64) -> u64
-    ensures { Lesser result a b }
-{
-    if a <= b { a } else { b }
+// A tournament of numbers. With m players they stand at nodes m to 2m - 1, and node i, from 1 to m - 1, holds the lesser of nodes 2i and 2i + 1.
+#[derive(Drop)]
+pub struct Tournament {
+    nodes: [u64; NODES],
+    players: usize,
+}
+
+// Clauses see the numbers that play. That every node holds the lesser of its two is true of each tournament.
+impl Model for Tournament {
+    ghost use Rattle.std.specs.Prelude.{ℕ, List};
+    ghost use Rattle.tournament.specs.Tournament.{leaves, Bracket};
+
+    ghost Value = { List ℕ };
+
+    ghost view = { λ t. leaves t.players t.nodes };
+
+    ghost invariant = { λ t. Bracket t.players t.nodes };
 }
 
 // The node that plays against node i.
@@ -35,38 +43,58 @@ fn beside(i: usize) -> usize
     i ^ 1
 }
 
-// Number `leaf` becomes `key`, the nodes above it are played again, and the answer is the least of all.
-pub fn put(tree: &mut [u64; NODES], m: usize, leaf: usize, key: u64) -> u64
-    requires { (m ≤ most_tags) × (leaf < m) × Tree m tree.old }
-    ensures { Put m leaf key tree.old tree.new × (result ≡ at tree.new 1) }
+// Plays all nodes, from the last to the root.
+fn play(tree: &mut [u64; NODES], m: usize)
+    requires { m ≤ most_tags }
+    ensures tree { Tree m tree.new }
+    ensures leaves { SameLeaves m tree.old tree.new }
 {
-    let mut i = m + leaf;
-    // Node i's number, kept here so that no level waits for what the one below it stored.
-    let mut best = key;
-    tree[i] = best;
-    while 1 < i {
-        let sibling = tree[beside(i)];
-        best = lesser(best, sibling);
-        i = i / 2;
-        tree[i] = best;
-    }
-    best
-}
-
-// Plays all nodes, from the last to the root, and gives the least of all; where none plays it gives PAST.
-pub fn play(tree: &mut [u64; NODES], m: usize) -> u64
-    requires { (m ≤ most_tags) × (length tree.old ≡ nodes) }
-    ensures { Tree m tree.new × SameLeaves m tree.old tree.new × Root m tree.new result }
-{
-    let mut i = m;
-    while 1 < i {
-        i -= 1;
+    for i in (1..m).rev() {
         let left = tree[2 * i];
         let right = tree[2 * i + 1];
-        tree[i] = lesser(left, right);
+        tree[i] = left.min(right);
     }
-    if m == 0 {
-        return PAST;
+}
+
+impl Tournament {
+    // The tournament in which these numbers play.
+    pub fn new(numbers: &[u64]) -> Tournament
+        requires { length numbers.now ≤ most_tags }
+        ensures { result ≡ numbers.now }
+    {
+        let players = numbers.len();
+        let mut nodes = [0; NODES];
+        nodes[players..2 * players].copy_from_slice(numbers);
+        play(&mut nodes, players);
+        Tournament { nodes, players }
     }
-    tree[ROOT]
+
+    // The least of all numbers; where none plays it is PAST.
+    pub fn least(&self) -> u64
+        ensures { Least self.now result }
+    {
+        if self.players == 0 {
+            return PAST;
+        }
+        self.nodes[ROOT]
+    }
+
+    // Player `player` has `number` now, the nodes above it are played again, and the answer is the least of all.
+    pub fn put(&mut self, player: usize, number: u64) -> u64
+        requires { player < length self.old }
+        ensures set { self.new ≡ slice_set self.old player number }
+        ensures least { Least self.new result }
+    {
+        let mut i = self.players + player;
+        // Node i's number, kept here so that no level waits for what the one below it stored.
+        let mut best = number;
+        self.nodes[i] = best;
+        while 1 < i {
+            let sibling = self.nodes[beside(i)];
+            best = best.min(sibling);
+            i = i / 2;
+            self.nodes[i] = best;
+        }
+        best
+    }
 }

@@ -4,6 +4,3 @@ use Rattle.tournament.proofs.play.Given as goal
 
 abbrev pub invariant-loop-i : goal.invariant-loop-i
 invariant-loop-i l = Built l.m l.fn.tree l.i l.tree
-
-abbrev pub decreases-loop-i : goal.decreases-loop-i
-decreases-loop-i l = l.i

@@ -1,0 +1,67 @@
+-- The numbers that play, as a list: what a store makes of them, and that the root is the least of them.
+use Prim.Native.Nat.{ℕ, ◌+◌, ◌-◌, ◌*◌, ◌≤◌, ◌<◌}
+use native.Mathlib.Decide.{ℕ_discrete}
+use native.Mathlib.Omega.{arith}
+use mathlib.Core.Path.{◌≡◌, refl, sym, ap, subst, ◌∙◌}
+use mathlib.Core.List.{List}
+use lib.ListN.{length, take, drop, set, length-set}
+use lib.Seq.{get_or-set_same, get_or-set_other}
+use Rattle.std.proofs.lemmas.List.{length-take, length-drop, get_or-take, get_or-drop, ext_get_or}
+use Rattle.std.proofs.lemmas.Slice.{between-put_mid}
+use borrow.Rule.Slice.PartMut.{put_mid}
+use Rattle.meaning.specs.Limits.{most_tags}
+use Rattle.meaning.specs.Bytes.{at}
+use Rattle.tournament.specs.Tournament.{past, nodes, leaves, SameLeaves, Put, Bracket, Least}
+use Rattle.tournament.proofs.Playing.{root_least, root_leaf}
+
+-- As many numbers as players.
+pub leaves_long : (m : ℕ) (xs : List ℕ) → m ≤ most_tags → length xs ≡ nodes → length (leaves m xs) ≡ m
+leaves_long m xs few long = simp (length-take, length-drop) (omega arith)
+
+-- Player j's number stands at node m + j.
+pub leaf_at : (m : ℕ) (xs : List ℕ) (j : ℕ) → j < m → at (leaves m xs) j ≡ at xs (m + j)
+leaf_at m xs j l = get_or-take m _ j 0 l ∙ get_or-drop m xs j 0
+
+-- Numbers that were written to where the players stand, and stay there, are the numbers that play.
+pub leaves_new : (m k : ℕ) (xs numbers ys : List ℕ) → m ≤ most_tags → length xs ≡ nodes → length numbers ≡ m → length ys ≡ nodes → SameLeaves m (put_mid m k xs numbers) ys → leaves m ys ≡ numbers
+leaves_new m k xs numbers ys few xs-long numbers-long ys-long same =
+    ext_get_or 0 _ _ (leaves_long m ys few ys-long ∙ sym numbers-long) (λ j l. each j (omega (arith, leaves_long m ys few ys-long)))
+  where
+    wrote : leaves m (put_mid m k xs numbers) ≡ numbers
+    wrote =
+        let twice : 2 * m - m ≡ m = omega arith in
+        subst (λ (n : ℕ). take n (drop m (put_mid m k xs numbers)) ≡ numbers) twice (between-put_mid m k xs numbers (2 * m) (omega arith) (omega arith))
+
+    each : (j : ℕ) → j < m → at (leaves m ys) j ≡ at numbers j
+    each j l = leaf_at m ys j l ∙ same j l ∙ sym (leaf_at m (put_mid m k xs numbers) j l) ∙ ap (λ (zs : List ℕ). at zs j) wrote
+
+-- One number is another now.
+pub leaves_put : (m leaf key : ℕ) (xs ys : List ℕ) → Bracket m xs → leaf < m → Put m leaf key xs ys → leaves m ys ≡ set (leaves m xs) leaf key
+leaves_put m leaf key xs ys w l put = ext_get_or 0 _ _ (leaves_long m ys w.few put.tree.long ∙ sym same) (λ j k. each j (omega (arith, leaves_long m ys w.few put.tree.long)))
+  where
+    long : length (leaves m xs) ≡ m
+    long = leaves_long m xs w.few w.tree.long
+
+    same : length (set (leaves m xs) leaf key) ≡ m
+    same = length-set (leaves m xs) leaf key ∙ long
+
+    each : (j : ℕ) → j < m → at (leaves m ys) j ≡ at (set (leaves m xs) leaf key) j
+    each j k = leaf_at m ys j k ∙ go (ℕ_discrete j leaf)
+      where
+        go : Dec (j ≡ leaf) → at ys (m + j) ≡ at (set (leaves m xs) leaf key) j
+        go (yes e) = rw (e, put.here, get_or-set_same (leaves m xs) leaf key 0 (omega (arith, long))) refl
+        go (no d) = put.other j k d ∙ sym (get_or-set_other (leaves m xs) leaf j key 0 d ∙ leaf_at m xs j k)
+
+-- The root is the least of the numbers that play; where none plays, what stands for none is.
+pub least_of : (m : ℕ) (xs : List ℕ) (v : ℕ) → Bracket m xs → (0 < m → v ≡ at xs 1) → (m ≡ 0 → v ≡ past) → Least (leaves m xs) v
+least_of m xs v w root none = record {
+  below = λ j l. let k : j < m = omega (arith, long) in omega (arith, root (omega arith), root_least m xs w.tree j k, leaf_at m xs j k);
+  one = λ some. let k : 0 < m = omega (arith, long) in go k (root_leaf m xs w.tree k);
+  none = λ e. none (omega (arith, long));
+}
+  where
+    long : length (leaves m xs) ≡ m
+    long = leaves_long m xs w.few w.tree.long
+
+    go : 0 < m → (j : ℕ) × (j < m) × (at xs (m + j) ≡ at xs 1) → (j : ℕ) × (j < length (leaves m xs)) × (at (leaves m xs) j ≡ v)
+    go k (j, l, e) = (j, omega (arith, long), leaf_at m xs j l ∙ e ∙ sym (root k))

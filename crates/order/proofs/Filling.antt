@@ -5,18 +5,20 @@ use native.Mathlib.Omega.{arith}
 use mathlib.Core.Path.{◌≡◌, refl, ap, subst, ◌∙◌}
 use mathlib.Core.Logic.{◌⊎◌, inl, inr}
 use mathlib.Core.List.{List}
-use lib.ListN.{length, set, length-set}
+use lib.ListN.{length, take, set, length-set}
+use Rattle.std.proofs.lemmas.List.{length-take-le, get_or-take}
 use lib.Seq.{get_or-set_same, get_or-set_other}
 use Rattle.meaning.specs.Limits.{most_tags}
 use Rattle.meaning.specs.Bytes.{u32_at}
 use Rattle.meaning.specs.Labels.{Lists}
 use Rattle.meaning.specs.Day.{tags, offset, label_at, lists_of}
 use Rattle.meaning.specs.Bytes.{at}
-use Rattle.tournament.specs.Tournament.{numbers, nodes, past, Tree, SameLeaves, Root}
-use Rattle.order.specs.Keys.{Key, Keys}
-use Rattle.order.specs.Standing.{position_at, cursor, AtLabel, Cursors, Lent, Filled, Begun}
+use Rattle.tournament.specs.Tournament.{numbers, past}
+use Rattle.contents.specs.Parts.{Placed}
+use Rattle.order.specs.Walk.{Ascend}
+use Rattle.order.specs.Keys.{Key}
+use Rattle.order.specs.Standing.{position_at, cursor, AtLabel, Standing, Begun}
 use Rattle.order.proofs.WalkLaws.{none_seen}
-use Rattle.order.proofs.Naming.{names_of}
 
 -- The label that begins at a place is the list's at that position.
 pub label_here : (b : List ℕ) (r place : ℕ) → AtLabel b r place → label_at b place 0 ≡ (lists_of b).label r (position_at b r place)
@@ -36,22 +38,18 @@ key_none t r p l = record { some = λ h. absurd (omega arith); small = λ h. abs
 pub at_first : (b : List ℕ) (r place : ℕ) → place ≡ offset b r → AtLabel b r place × (position_at b r place ≡ 0)
 at_first b r place e = (record { begins = omega arith; within = omega arith }, omega arith)
 
--- The loop of `fill`: the first r lists have their places and keys.
-pub record Filling (b : List ℕ) (m r : ℕ) (tree places : List ℕ) : Type 0 where
-  pub tree_long : length tree ≡ nodes
+-- The loop of `begin`: the first r lists have their places and keys.
+pub record Filling (b : List ℕ) (r : ℕ) (places keys : List ℕ) : Type 0 where
   pub places_long : length places ≡ most_tags
+  pub keys_long : length keys ≡ most_tags
   pub place : (j : ℕ) → j < r → at places j ≡ offset b j
-  pub key : (j : ℕ) → j < r → Key (lists_of b) j 0 (at tree (m + j))
-
--- No list has.
-pub filling_begin : (b : List ℕ) (m : ℕ) (tree places : List ℕ) → Lent b m tree places → Filling b m 0 tree places
-filling_begin b m tree places l = record { tree_long = l.tree_long; places_long = l.places_long; place = λ j h. absurd (omega arith); key = λ j h. absurd (omega arith) }
+  pub key : (j : ℕ) → j < r → Key (lists_of b) j 0 (at keys j)
 
 -- List r gets them.
-pub filling_on : (b : List ℕ) (m r : ℕ) (tree places : List ℕ) → Filling b m r tree places → r < m → m ≤ most_tags → (place key : ℕ) → place ≡ offset b r → Key (lists_of b) r (position_at b r place) key → Filling b m (r + 1) (set tree (m + r) key) (set places r place)
-filling_on b m r tree places w l few place key e k = record {
-  tree_long = simp length-set w.tree_long;
+pub filling_on : (b : List ℕ) (r : ℕ) (places keys : List ℕ) → Filling b r places keys → r < most_tags → (place key : ℕ) → place ≡ offset b r → Key (lists_of b) r (position_at b r place) key → Filling b (r + 1) (set places r place) (set keys r key)
+filling_on b r places keys w l place key e k = record {
   places_long = simp length-set w.places_long;
+  keys_long = simp length-set w.keys_long;
   place = λ j h. there j (eq-or-lt_of_le {n = j} {m = r} (omega arith));
   key = λ j h. keyed j (eq-or-lt_of_le {n = j} {m = r} (omega arith));
 }
@@ -60,34 +58,25 @@ filling_on b m r tree places w l few place key e k = record {
     there j (inl f) = rw f (get_or-set_same places r place 0 (omega (arith, w.places_long)) ∙ e)
     there j (inr h) = get_or-set_other places r j place 0 (ne_of_lt h) ∙ w.place j h
 
-    keyed : (j : ℕ) → (j ≡ r) ⊎ (j < r) → Key (lists_of b) j 0 (at (set tree (m + r) key) (m + j))
-    keyed j (inl f) = rw (f, get_or-set_same tree (m + r) key 0 (omega (arith, w.tree_long))) (subst (λ (p : ℕ). Key (lists_of b) r p key) (at_first b r place e).1 k)
-    keyed j (inr h) = rw (get_or-set_other tree (m + r) (m + j) key 0 (λ f. omega arith)) (w.key j h)
+    keyed : (j : ℕ) → (j ≡ r) ⊎ (j < r) → Key (lists_of b) j 0 (at (set keys r key) j)
+    keyed j (inl f) = rw (f, get_or-set_same keys r key 0 (omega (arith, w.keys_long))) (subst (λ (p : ℕ). Key (lists_of b) r p key) (at_first b r place e).1 k)
+    keyed j (inr h) = rw (get_or-set_other keys r j key 0 (ne_of_lt h)) (w.key j h)
 
--- All lists have.
-pub filling_end : (b : List ℕ) (m r : ℕ) (tree places : List ℕ) → Filling b m r tree places → m ≤ r → Filled b m tree places
-filling_end b m r tree places w l = record { tree_long = w.tree_long; places_long = w.places_long; place = λ j h. w.place j (omega arith); key = λ j h. w.key j (omega arith) }
+-- When all lists have them, the walk stands at the first labels.
+module _ (b places keys : List ℕ) (placed : Placed b) (ascend : Ascend (lists_of b)) (w : Filling b (tags b) places keys) where
+  -- Nothing was handed out.
+  pub filled_begun : Begun b places
+  filled_begun r l = (at_first b r (at places r) (w.place r l)).1
 
--- When all nodes are played, the walk begins.
-pub begun : (b : List ℕ) (m : ℕ) (tree₀ places₀ tree places tree' : List ℕ) (least : ℕ) → Lent b m tree₀ places₀ → Filled b m tree places → Tree m tree' → SameLeaves m tree tree' → Root m tree' least → Begun b m tree' places least
-begun b m tree₀ places₀ tree places tree' least lent filled played leaves root = record {
-  standing = record { placed = lent.placed; ascend = lent.ascend; m_is = lent.m_is; cursors = cursors; sorted = λ x y s v. absurd (none_seen (lists_of b) (cursor b places) zero x s); keys = keys };
-  names = names_of (lists_of b) (cursor b places) tree' least lent.ascend lent.placed.few keys (subst (λ (n : ℕ). Root n tree' least) lent.m_is root);
-  nothing = zero;
-}
-  where
-    there : (r : ℕ) → r < tags b → at places r ≡ offset b r
-    there r l = filled.place r (omega (arith, lent.m_is))
-
-    zero : (r : ℕ) → r < tags b → cursor b places r ≡ 0
-    zero r l = (at_first b r (at places r) (there r l)).1
-
-    cursors : Cursors b places
-    cursors = record { long = filled.places_long; each = λ r l. (at_first b r (at places r) (there r l)).0 }
-
-    keys : Keys (lists_of b) (cursor b places) tree'
-    keys = record {
-      tree = subst (λ (n : ℕ). Tree n tree') lent.m_is played;
-      key = λ r l. subst (λ (n : ℕ). Key (lists_of b) r (cursor b places r) (at tree' (n + r))) lent.m_is
-          (rw (zero r l, leaves r (omega (arith, lent.m_is))) (filled.key r (omega (arith, lent.m_is))));
-    }
+  -- Each key is its list's.
+  pub filled_standing : Standing b places (take (tags b) keys)
+  filled_standing = record {
+    placed = placed;
+    ascend = ascend;
+    cursors = record { long = w.places_long; each = λ r l. (at_first b r (at places r) (w.place r l)).0 };
+    sorted = λ x y s v. absurd (none_seen (lists_of b) (cursor b places) filled_begun x s);
+    keyed = record {
+      many = length-take-le (tags b) keys (omega (arith, w.keys_long, placed.few));
+      key = λ r l. rw (filled_begun r l, get_or-take (tags b) keys r 0 l) (w.key r l);
+    };
+  }

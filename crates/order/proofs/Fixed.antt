@@ -5,14 +5,16 @@ use native.Mathlib.Decide.{dec_le, ℕ_discrete}
 use native.Mathlib.Omega.{arith}
 use mathlib.Core.Path.{◌≡◌, sym, ap, subst, ◌∙◌}
 use mathlib.Core.List.{List}
+use Rattle.std.specs.Prelude.{Option, Some, None}
 use Rattle.meaning.specs.Limits.{most_tags}
 use Rattle.meaning.specs.Labels.{Lists}
 use Rattle.meaning.specs.Day.{tags, lists_of}
 use Rattle.meaning.specs.Bytes.{at}
 use Rattle.tournament.specs.Tournament.{past}
-use Rattle.order.specs.Walk.{start_of, next, Precedes, Comes}
-use Rattle.order.specs.Standing.{cursor, Cursors, Names, Begun, HandsOut}
-use Rattle.order.proofs.WalkLaws.{comes_one, done_none}
+use Rattle.order.specs.declared.Met.{Met}
+use Rattle.order.specs.Walk.{start_of, end_of, next, Precedes, Comes, Foretells}
+use Rattle.order.specs.Standing.{cursor, Cursors, Names, Standing, Begun, HandsOut}
+use Rattle.order.proofs.WalkLaws.{comes_one, done_none, foretold_fixed}
 
 -- Cursors that agree on all lists.
 abbrev Agree : Lists → (ℕ → ℕ) → (ℕ → ℕ) → Type 0
@@ -45,24 +47,31 @@ names_fixed t pos pos' m n agree a b = go (dec_le past m) (dec_le past n)
         let starts : start_of t (next pos (m % most_tags)) ≡ start_of t (next pos' (n % most_tags)) = λ j. (t.label (lists j) (at j)).start in
         omega (arith, lists, starts, a.start (lt_of_not-le d), b.start (lt_of_not-le e))
 
+-- What comes next is one by cursors that agree.
+foretold_agree : (t : Lists) (pos pos' : ℕ → ℕ) → Agree t pos pos' → (x y : Option Met) → Foretells t pos x → Foretells t pos' y → x ≡ y
+foretold_agree t pos pos' agree (Some m) y f g =
+    let here : pos m.list ≡ pos' m.list = agree m.list f.0.waits.holds.list_lt in
+    foretold_fixed t pos' (Some m) y (comes_as t pos pos' agree m.list f.0, f.1 ∙ here, f.2 ∙ ap (λ (p : ℕ). start_of t (record { list = m.list; at = p })) here, f.3 ∙ ap (λ (p : ℕ). end_of t (record { list = m.list; at = p })) here) g
+foretold_agree t pos pos' agree None y f g = foretold_fixed t pos' None y (λ r l. omega (arith, agree r l, f r l)) g
+
 module _ (b places places' : List ℕ) (w : Cursors b places) (w' : Cursors b places') where
   -- Lists whose cursors are the same have the same places.
   places_as : Agree (lists_of b) (cursor b places) (cursor b places') → (r : ℕ) → r < tags b → at places r ≡ at places' r
   places_as agree r l = omega (arith, agree r l, (w.each r l).begins, (w'.each r l).begins)
 
--- A walk that begins is one, in the place of every list and in its number.
-pub begun_fixed : (b : List ℕ) (m : ℕ) (tree places tree' places' : List ℕ) (least least' : ℕ) → Begun b m tree places least → Begun b m tree' places' least'
-    → ((r : ℕ) → r < tags b → at places r ≡ at places' r) × (least ≡ least')
-begun_fixed b m tree places tree' places' least least' h h' =
-    let agree : Agree (lists_of b) (cursor b places) (cursor b places') = λ r l. h.nothing r l ∙ sym (h'.nothing r l) in
-    (places_as b places places' h.standing.cursors h'.standing.cursors agree, names_fixed (lists_of b) (cursor b places) (cursor b places') least least' agree h.names h'.names)
+-- A walk that begins is one, in the place of every list and in what comes next.
+pub begun_fixed : (b places keys places' keys' : List ℕ) (coming coming' : Option Met) → Standing b places keys → Standing b places' keys' → Begun b places → Begun b places'
+    → Foretells (lists_of b) (cursor b places) coming → Foretells (lists_of b) (cursor b places') coming' → ((r : ℕ) → r < tags b → at places r ≡ at places' r) × (coming ≡ coming')
+begun_fixed b places keys places' keys' coming coming' w w' h h' f f' =
+    let agree : Agree (lists_of b) (cursor b places) (cursor b places') = λ r l. h r l ∙ sym (h' r l) in
+    (places_as b places places' w.cursors w'.cursors agree, foretold_agree (lists_of b) (cursor b places) (cursor b places') agree coming coming' f f')
 
 -- So is a walk that has handed out a label.
-pub hands_out_fixed : (b : List ℕ) (m : ℕ) (places : List ℕ) (list : ℕ) (tree₁ places₁ tree₂ places₂ : List ℕ) (least₁ least₂ : ℕ)
-    → HandsOut b m places list tree₁ places₁ least₁ → HandsOut b m places list tree₂ places₂ least₂
-    → ((r : ℕ) → r < tags b → at places₁ r ≡ at places₂ r) × (least₁ ≡ least₂)
-hands_out_fixed b m places list tree₁ places₁ tree₂ places₂ least₁ least₂ h h' =
-    (places_as b places₁ places₂ h.standing.cursors h'.standing.cursors agree, names_fixed (lists_of b) (cursor b places₁) (cursor b places₂) least₁ least₂ agree h.names h'.names)
+pub hands_out_fixed : (b places : List ℕ) (list : ℕ) (places₁ keys₁ places₂ keys₂ : List ℕ) (coming₁ coming₂ : Option Met)
+    → HandsOut b places list places₁ keys₁ coming₁ → HandsOut b places list places₂ keys₂ coming₂
+    → ((r : ℕ) → r < tags b → at places₁ r ≡ at places₂ r) × (coming₁ ≡ coming₂)
+hands_out_fixed b places list places₁ keys₁ places₂ keys₂ coming₁ coming₂ h h' =
+    (places_as b places₁ places₂ h.standing.cursors h'.standing.cursors agree, foretold_agree (lists_of b) (cursor b places₁) (cursor b places₂) agree coming₁ coming₂ h.foretold h'.foretold)
   where
     agree : Agree (lists_of b) (cursor b places₁) (cursor b places₂)
     agree r l = go (ℕ_discrete r list)

@@ -6,15 +6,15 @@ use native.Mathlib.Omega.{arith}
 use mathlib.Core.Path.{◌≡◌, sym, ap, ◌∙◌}
 use mathlib.Core.Logic.{⊎_elim}
 use mathlib.Core.List.{List}
+use lib.ListN.{length}
 use Rattle.meaning.specs.Limits.{most_tags}
 use Rattle.meaning.specs.Labels.{Lists}
 use Rattle.order.specs.Walk.{Ascend, Waits, start_of, next, Comes, Done}
 use Rattle.order.specs.Standing.{Names}
 use Rattle.meaning.specs.Bytes.{at}
-use Rattle.tournament.specs.Tournament.{past, Root}
+use Rattle.tournament.specs.Tournament.{past, Least}
 use Rattle.order.specs.Keys.{Keys}
 use Rattle.order.proofs.WalkLaws.{precedes_by, first_of_all}
-use Rattle.tournament.proofs.Playing.{root_least, root_leaf}
 
 -- A list j whose next label comes next, and which a key names.
 record NamesList (t : Lists) (pos : ℕ → ℕ) (key j : ℕ) : Type 0 where
@@ -22,24 +22,27 @@ record NamesList (t : Lists) (pos : ℕ → ℕ) (key j : ℕ) : Type 0 where
   list : j ≡ key % most_tags
   start : key / most_tags ≡ start_of t (next pos j)
 
-module _ (t : Lists) (pos : ℕ → ℕ) (xs : List ℕ) (key : ℕ) (ascend : Ascend t) (few : t.many ≤ most_tags) (keys : Keys t pos xs) (root : Root t.many xs key) where
+module _ (t : Lists) (pos : ℕ → ℕ) (xs : List ℕ) (key : ℕ) (ascend : Ascend t) (few : t.many ≤ most_tags) (keys : Keys t pos xs) (root : Least xs key) where
   -- A least key that is not past all keys names the list that has the label that comes next.
   named : key < past → (j : ℕ) × NamesList t pos key j
-  named h = ⊎_elim (λ e. absurd (omega (arith, root.none (sym e)))) (λ some. go (root.some some) (root_leaf t.many xs keys.tree some)) (eq-or-lt_of_le {n = 0} {m = t.many} (omega arith))
+  named h = ⊎_elim (λ e. absurd (omega (arith, root.none (sym e)))) (λ some. go (root.one some)) (eq-or-lt_of_le {n = 0} {m = length xs} (omega arith))
     where
-      go : key ≡ at xs 1 → (j : ℕ) × (j < t.many) × (at xs (t.many + j) ≡ at xs 1) → (j : ℕ) × NamesList t pos key j
-      go top (j, l, e) = here (dec_le (t.count j) (pos j))
+      go : (j : ℕ) × (j < length xs) × (at xs j ≡ key) → (j : ℕ) × NamesList t pos key j
+      go (j, k, e) = here (dec_le (t.count j) (pos j))
         where
+          l : j < t.many
+          l = omega (arith, keys.many)
+
           here : Dec (t.count j ≤ pos j) → (j : ℕ) × NamesList t pos key j
           here (yes k) = absurd (omega (arith, (keys.key j l).none k))
           here (no d) =
               let room : pos j < t.count j = lt_of_not-le d in
-              let is : key ≡ most_tags * start_of t (next pos j) + j = omega (arith, top, e, (keys.key j l).some room) in
-              let small : j < most_tags = omega arith in
+              let is : key ≡ most_tags * start_of t (next pos j) + j = omega (arith, e, (keys.key j l).some room) in
+              let small : j < most_tags = omega (arith, l) in
               let waits : Waits t pos (next pos j) = record { holds = record { list_lt = l; at_lt = room }; ahead = omega arith } in (
                 j,
                 record {
-                  comes = first_of_all t ascend pos j waits (λ s sl sc. precedes_by t (next pos j) (next pos s) small (omega arith) (omega (arith, is, top, root_least t.many xs keys.tree s sl, (keys.key s sl).some sc)));
+                  comes = first_of_all t ascend pos j waits (λ s sl sc. precedes_by t (next pos j) (next pos s) small (omega arith) (omega (arith, is, root.below s (omega (arith, keys.many)), (keys.key s sl).some sc)));
                   list = omega arith;
                   start = omega arith;
                 },
@@ -51,15 +54,18 @@ module _ (t : Lists) (pos : ℕ → ℕ) (xs : List ℕ) (key : ℕ) (ascend : A
     where
       go : Dec (t.count r ≤ pos r) → t.count r ≤ pos r
       go (yes k) = k
-      go (no d) = absurd (omega (arith, (keys.key r l).small (lt_of_not-le d), root.some (omega arith), root_least t.many xs keys.tree r l))
+      go (no d) = absurd (omega (arith, (keys.key r l).small (lt_of_not-le d), root.below r (omega (arith, keys.many))))
 
   -- No least key is more than one past all keys.
   at_most_past : key ≤ past
-  at_most_past = ⊎_elim (λ e. omega (arith, root.none (sym e))) (λ some. go (root.some some) (root_leaf t.many xs keys.tree some)) (eq-or-lt_of_le {n = 0} {m = t.many} (omega arith))
+  at_most_past = ⊎_elim (λ e. omega (arith, root.none (sym e))) (λ some. go (root.one some)) (eq-or-lt_of_le {n = 0} {m = length xs} (omega arith))
     where
-      go : key ≡ at xs 1 → (j : ℕ) × (j < t.many) × (at xs (t.many + j) ≡ at xs 1) → key ≤ past
-      go top (j, l, e) = here (dec_le (t.count j) (pos j))
+      go : (j : ℕ) × (j < length xs) × (at xs j ≡ key) → key ≤ past
+      go (j, k, e) = here (dec_le (t.count j) (pos j))
         where
+          l : j < t.many
+          l = omega (arith, keys.many)
+
           here : Dec (t.count j ≤ pos j) → key ≤ past
           here (yes k) = omega (arith, (keys.key j l).none k)
           here (no d) = omega (arith, (keys.key j l).small (lt_of_not-le d))

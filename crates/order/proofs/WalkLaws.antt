@@ -6,10 +6,10 @@ use native.Mathlib.Decide.{ℕ_discrete}
 use native.Mathlib.Omega.{arith}
 use mathlib.Core.Path.{◌≡◌, refl, sym, ap, subst, ◌∙◌}
 use mathlib.Core.Logic.{◌⊎◌, inl, inr, ⊎_elim}
+use Rattle.std.specs.Prelude.{Option, Some, None}
 use Rattle.meaning.specs.Limits.{most_tags}
 use Rattle.meaning.specs.Labels.{Lists, Place, Holds}
-use Rattle.order.specs.declared.Coming.{Coming}
-use Rattle.order.specs.declared.Coming.TheVariants.{Label, End}
+use Rattle.order.specs.declared.Met.{Met}
 use Rattle.order.specs.Walk.{start_of, Ascend, Seen, Waits, Precedes, Sorted, next, Comes, Moved, Done, Foretells}
 
 -- What is below one more is the last or below it.
@@ -46,16 +46,16 @@ pub done_none : (t : Lists) (pos : ℕ → ℕ) (r : ℕ) → Done t pos → Com
 done_none t pos r d c = omega (arith, d r c.waits.holds.list_lt, c.waits.holds.at_lt)
 
 -- What is said of what comes next is fixed, in every number.
-pub foretold_fixed : (t : Lists) (pos : ℕ → ℕ) (x y : Coming) → Foretells t pos x → Foretells t pos y → x ≡ y
-foretold_fixed t pos (Label l a s e) (Label k b u f) x y =
-    let one = comes_one t pos l k x.0 y.0 in
-    let at : a ≡ b = x.1 ∙ ap pos one ∙ sym y.1 in
-    let starts : s ≡ u = x.2 ∙ ap (λ (r : ℕ). start_of t (next pos r)) one ∙ sym y.2 in
-    let ends : e ≡ f = cc (x.3, y.3, one) in
-    λ j. Label (one j) (at j) (starts j) (ends j)
-foretold_fixed t pos (Label l a s e) End x y = absurd (done_none t pos l y x.0)
-foretold_fixed t pos End (Label k b u f) x y = absurd (done_none t pos k x y.0)
-foretold_fixed t pos End End x y = refl
+pub foretold_fixed : (t : Lists) (pos : ℕ → ℕ) (x y : Option Met) → Foretells t pos x → Foretells t pos y → x ≡ y
+foretold_fixed t pos (Some m) (Some n) x y =
+    let one = comes_one t pos m.list n.list x.0 y.0 in
+    let at : m.at ≡ n.at = x.1 ∙ ap pos one ∙ sym y.1 in
+    let starts : m.start ≡ n.start = x.2 ∙ ap (λ (r : ℕ). start_of t (next pos r)) one ∙ sym y.2 in
+    let ends : m.end ≡ n.end = cc (x.3, y.3, one) in
+    λ j. Some (record { list = one j; at = at j; start = starts j; end = ends j })
+foretold_fixed t pos (Some m) None x y = absurd (done_none t pos m.list y x.0)
+foretold_fixed t pos None (Some n) x y = absurd (done_none t pos n.list x y.0)
+foretold_fixed t pos None None x y = refl
 
 -- Of the labels next in their lists, the first comes before all that wait, since lists ascend.
 pub first_of_all : (t : Lists) → Ascend t → (pos : ℕ → ℕ) (r : ℕ) → Waits t pos (next pos r) → ((s : ℕ) → s < t.many → pos s < t.count s → Precedes t (next pos r) (next pos s)) → Comes t pos r

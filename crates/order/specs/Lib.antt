@@ -2,3 +2,4 @@
 pub mod Walk
 pub mod Keys
 pub mod Standing
+pub mod OneProof

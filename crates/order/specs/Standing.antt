@@ -1,13 +1,14 @@
--- What the lent arrays and the number of a walk hold.
-use Rattle.std.specs.Prelude.{ℕ, ◌+◌, ◌*◌, ◌-◌, ◌/◌, ◌%◌, ◌≤◌, ◌<◌, ◌≡◌, List, length}
+-- What the places and the keys of a walk hold, over the bytes of its index.
+use Rattle.std.specs.Prelude.{ℕ, ◌+◌, ◌*◌, ◌-◌, ◌/◌, ◌%◌, ◌≤◌, ◌<◌, ◌≡◌, List, length, Option}
 use Rattle.meaning.specs.Limits.{most_tags}
 use Rattle.meaning.specs.Labels.{Lists}
 use Rattle.meaning.specs.Day.{tags, offset, count, lists_of}
 use Rattle.contents.specs.Parts.{Placed}
-use Rattle.order.specs.Walk.{Ascend, Sorted, Comes, Moved, Done, start_of, next}
+use Rattle.order.specs.Walk.{Ascend, Sorted, Comes, Moved, Done, Foretells, start_of, next}
 use Rattle.meaning.specs.Bytes.{at}
-use Rattle.tournament.specs.Tournament.{nodes, past}
-use Rattle.order.specs.Keys.{Key, Keys}
+use Rattle.tournament.specs.Tournament.{past}
+use Rattle.order.specs.declared.Met.{Met}
+use Rattle.order.specs.Keys.{Keys}
 
 -- The position in list r of the label that begins at a place of the index.
 abbrev pub position_at : List ℕ → ℕ → ℕ → ℕ
@@ -34,38 +35,20 @@ pub record Names (t : Lists) (pos : ℕ → ℕ) (least : ℕ) : Type 0 where
   pub none : past ≤ least → Done t pos
   pub most : least ≤ past
 
--- What is lent to a walk before it begins: the lists lie within the index and ascend, and the arrays are long enough.
-pub record Lent (b : List ℕ) (m : ℕ) (tree places : List ℕ) : Type 0 where
+-- A walk stands at its cursors: what was handed out comes before what is left, and the keys are the lists'.
+pub record Standing (b places keys : List ℕ) : Type 0 where
   pub placed : Placed b
   pub ascend : Ascend (lists_of b)
-  pub m_is : m ≡ tags b
-  pub tree_long : length tree ≡ nodes
-  pub places_long : length places ≡ most_tags
-
--- Every list's place is that of its first label, and its number in the tournament is its key there.
-pub record Filled (b : List ℕ) (m : ℕ) (tree places : List ℕ) : Type 0 where
-  pub tree_long : length tree ≡ nodes
-  pub places_long : length places ≡ most_tags
-  pub place : (r : ℕ) → r < m → at places r ≡ offset b r
-  pub key : (r : ℕ) → r < m → Key (lists_of b) r 0 (at tree (m + r))
-
--- A walk stands at its cursors: what was handed out comes before what is left, and the tournament has the lists' keys.
-pub record Standing (b : List ℕ) (m : ℕ) (tree places : List ℕ) : Type 0 where
-  pub placed : Placed b
-  pub ascend : Ascend (lists_of b)
-  pub m_is : m ≡ tags b
   pub cursors : Cursors b places
   pub sorted : Sorted (lists_of b) (cursor b places)
-  pub keys : Keys (lists_of b) (cursor b places) tree
+  pub keyed : Keys (lists_of b) (cursor b places) keys
 
 -- A walk that begins: nothing was handed out.
-pub record Begun (b : List ℕ) (m : ℕ) (tree places : List ℕ) (least : ℕ) : Type 0 where
-  pub standing : Standing b m tree places
-  pub names : Names (lists_of b) (cursor b places) least
-  pub nothing : (r : ℕ) → r < tags b → cursor b places r ≡ 0
+abbrev pub Begun : List ℕ → List ℕ → Type 0
+Begun b places = (r : ℕ) → r < tags b → cursor b places r ≡ 0
 
--- A walk that hands out the label next in a list: that list's cursor moves on, and the others stay.
-pub record HandsOut (b : List ℕ) (m : ℕ) (places : List ℕ) (list : ℕ) (tree' places' : List ℕ) (least : ℕ) : Type 0 where
-  pub standing : Standing b m tree' places'
-  pub names : Names (lists_of b) (cursor b places') least
+-- A walk that hands out the label next in a list: that list's cursor moves on, and the others stay; and what comes next then.
+pub record HandsOut (b places : List ℕ) (list : ℕ) (places' keys' : List ℕ) (coming : Option Met) : Type 0 where
+  pub standing : Standing b places' keys'
   pub moved : Moved (cursor b places) (cursor b places') list
+  pub foretold : Foretells (lists_of b) (cursor b places') coming

@@ -1,9 +1,8 @@
 -- A walk over all labels of all lists in order of start, told by a cursor for each list: what was handed out, what is left, and what
 -- comes next. Nothing here knows how the next label is found.
-use Rattle.std.specs.Prelude.{ℕ, suc, ◌≤◌, ◌<◌, ◌≡◌, ◌⊎◌, ◌≢◌}
+use Rattle.std.specs.Prelude.{ℕ, suc, ◌≤◌, ◌<◌, ◌≡◌, ◌⊎◌, ◌≢◌, Option, Some, None}
 use Rattle.meaning.specs.Labels.{Lists, Place, label_of, Holds}
-use Rattle.order.specs.declared.Coming.{Coming}
-use Rattle.order.specs.declared.Coming.TheVariants.{Label, End}
+use Rattle.order.specs.declared.Met.{Met}
 
 -- The start of the label at a place.
 abbrev pub start_of : Lists → Place → ℕ
@@ -54,6 +53,6 @@ abbrev pub Done : Lists → (ℕ → ℕ) → Type 0
 Done t pos = (r : ℕ) → r < t.many → t.count r ≤ pos r
 
 -- What an answer says of what comes next: that label, with its list, its position there and its numbers; or that all were handed out.
-abbrev pub Foretells : Lists → (ℕ → ℕ) → Coming → Type 0
-Foretells t pos (Label list at start end) = Comes t pos list × (at ≡ pos list) × (start ≡ start_of t (next pos list)) × (end ≡ end_of t (next pos list))
-Foretells t pos End = Done t pos
+abbrev pub Foretells : Lists → (ℕ → ℕ) → Option Met → Type 0
+Foretells t pos (Some met) = Comes t pos met.list × (met.at ≡ pos met.list) × (met.start ≡ start_of t (next pos met.list)) × (met.end ≡ end_of t (next pos met.list))
+Foretells t pos None = Done t pos

@@ -13,7 +13,7 @@ pub fn key(start: u32, r: usize) -> u64
     requires { r < most_tags }
     ensures { result ≡ most_tags * start + r }
 {
-    LISTS * (start as u64) + (r as u64)
+    LISTS * u64::from(start) + r as u64
 }
 
 // The start that a key has.
@@ -26,7 +26,8 @@ pub fn start_of(key: u64) -> u32
 
 // The list that a key names.
 pub fn list_of(key: u64) -> usize
-    ensures { (result ≡ key % most_tags) × (result < most_tags) }
+    ensures list { result ≡ key % most_tags }
+    ensures within { result < most_tags }
 {
     (key % LISTS) as usize
 }

@@ -5,7 +5,7 @@ ghost use Rattle.std.specs.Prelude.{◌<◌, length};
 ghost use Rattle.open.specs.Entries.{Stored, Taken};
 
 // A record that is still open: its numbers and its list.
-#[derive(Clone, Copy)]
+#[derive(Clone, Copy, Default)]
 pub struct Open {
     pub start: u32,
     pub end: u32,

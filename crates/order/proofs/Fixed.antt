@@ -51,7 +51,7 @@ names_fixed t pos pos' m n agree a b = go (dec_le past m) (dec_le past n)
 foretold_agree : (t : Lists) (pos pos' : ℕ → ℕ) → Agree t pos pos' → (x y : Option Met) → Foretells t pos x → Foretells t pos' y → x ≡ y
 foretold_agree t pos pos' agree (Some m) y f g =
     let here : pos m.list ≡ pos' m.list = agree m.list f.0.waits.holds.list_lt in
-    foretold_fixed t pos' (Some m) y (comes_as t pos pos' agree m.list f.0, f.1 ∙ here, f.2 ∙ ap (λ (p : ℕ). start_of t (record { list = m.list; at = p })) here, f.3 ∙ ap (λ (p : ℕ). end_of t (record { list = m.list; at = p })) here) g
+    foretold_fixed t pos' (Some m) y (comes_as t pos pos' agree m.list f.0, f.1 ∙ here, cc (f.2, here), cc (f.3, here)) g
 foretold_agree t pos pos' agree None y f g = foretold_fixed t pos' None y (λ r l. omega (arith, agree r l, f r l)) g
 
 module _ (b places places' : List ℕ) (w : Cursors b places) (w' : Cursors b places') where

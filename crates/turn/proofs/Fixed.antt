@@ -1,88 +1,78 @@
--- What a turn gives is fixed: the state in every field, and the walk's arrays as far as the walk's own promise fixes them.
+-- What a turn gives is fixed: what it decides, in every number, and the walk as far as the walk's own promise fixes it.
 use Prim.Native.Nat.{ℕ, ◌<◌}
 use mathlib.Core.Path.{◌≡◌, sym, ap, subst, ◌∙◌}
-use mathlib.Core.Bool.{false, true≢false}
 use mathlib.Core.List.{List}
-use Rattle.meaning.specs.Day.{tags, lists_of}
+use Rattle.std.specs.Prelude.{Option, Some, None}
+use Rattle.meaning.specs.Day.{tags}
 use Rattle.meaning.specs.Bytes.{at}
-use Rattle.order.specs.declared.Coming.TheVariants.{Label, End}
-use Rattle.order.specs.Standing.{cursor, HandsOut}
-use Rattle.order.proofs.WalkLaws.{comes_one, done_none}
+use Rattle.order.specs.declared.Met.{Met}
+use Rattle.order.specs.Standing.{HandsOut}
 use Rattle.order.proofs.Fixed.{hands_out_fixed}
-use Rattle.turn.specs.declared.State.{State}
-use Rattle.turn.specs.States.{opened_state}
-use Rattle.turn.specs.Sweep.{Closes, Refuses, ComesNext, Turned, ends, closes, refuses, opens}
+use Rattle.open.specs.declared.Open.{Open}
+use Rattle.turn.specs.declared.Turn.{Turn}
+use Rattle.turn.specs.declared.Turn.TheVariants.{Over, Closed, Opened}
+use Rattle.turn.specs.Sweep.{opened, Closes, Refuses, Turned, ends, closes, refuses, opens}
 
--- Two outcomes are one: in the state, in every list's place, and, where no record is opened, in all that the arrays hold.
-pub record Alike (b tree₁ places₁ : List ℕ) (s₁ : State) (tree₂ places₂ : List ℕ) (s₂ : State) : Type 0 where
-  pub state : s₁ ≡ s₂
+-- A record is opened.
+abbrev pub Opening : Turn → Type 0
+Opening (Over wrong) = ⊥
+Opening (Closed coming) = ⊥
+Opening (Opened inner coming) = Unit {0}
+
+-- Two outcomes are one: in what was decided, in every list's place, and, where no record is opened, in all that the walk holds.
+pub record Alike (b places₁ keys₁ : List ℕ) (turn₁ : Turn) (places₂ keys₂ : List ℕ) (turn₂ : Turn) : Type 0 where
+  pub turn : turn₁ ≡ turn₂
   pub place : (r : ℕ) → r < tags b → at places₁ r ≡ at places₂ r
-  pub arrays : s₁.put ≡ false → (tree₁ ≡ tree₂) × (places₁ ≡ places₂)
+  pub walk : (Opening turn₁ → ⊥) → (places₁ ≡ places₂) × (keys₁ ≡ keys₂)
 
--- Outcomes of one state that leave the arrays are one.
-kept : {b tree places tree₁ places₁ tree₂ places₂ : List ℕ} {s₁ s₂ z : State} → s₁ ≡ z → tree₁ ≡ tree → places₁ ≡ places → s₂ ≡ z → tree₂ ≡ tree → places₂ ≡ places
-    → Alike b tree₁ places₁ s₁ tree₂ places₂ s₂
-kept e te pe e' te' pe' = record { state = e ∙ sym e'; place = λ r l. ap (λ (xs : List ℕ). at xs r) (pe ∙ sym pe'); arrays = λ p. (te ∙ sym te', pe ∙ sym pe') }
+-- Outcomes of one decision that leave the walk are one.
+kept : {b places keys places₁ keys₁ places₂ keys₂ : List ℕ} {turn₁ turn₂ z : Turn} → turn₁ ≡ z → places₁ ≡ places → keys₁ ≡ keys → turn₂ ≡ z → places₂ ≡ places → keys₂ ≡ keys
+    → Alike b places₁ keys₁ turn₁ places₂ keys₂ turn₂
+kept e pe ke e' pe' ke' = record { turn = e ∙ sym e'; place = λ r l. ap (λ (xs : List ℕ). at xs r) (pe ∙ sym pe'); walk = λ p. (pe ∙ sym pe', ke ∙ sym ke') }
 
-module _ (b : List ℕ) (m : ℕ) (tree places : List ℕ) (s : State) where
-  -- The innermost record is closed by a start.
-  abbrev Closing : ℕ → Type 0
-  Closing start = Closes s.depth s.inner start
-
-  -- A record with a start and an end is refused.
-  abbrev Refusing : ℕ → ℕ → Type 0
-  Refusing start end = Refuses s.depth s.inner start end
+module _ (b places keys : List ℕ) (records : List Open) (coming : Option Met) where
+  -- One label comes next.
+  one : {m n : Met} → coming ≡ Some m → coming ≡ Some n → m ≡ n
+  one c d = cc (c, d)
 
   -- Where no label is left none comes next.
-  none : {l a u v : ℕ} → ComesNext b places End → ComesNext b places (Label l a u v) → ⊥
-  none {l = l} f g = done_none (lists_of b) (cursor b places) l f g.0
+  none : {m : Met} → coming ≡ None → coming ≡ Some m → ⊥
+  none c d = cc (c, d)
 
-  module _ {l a u v l' a' u' v' : ℕ} (f : ComesNext b places (Label l a u v)) (g : ComesNext b places (Label l' a' u' v')) where
-    -- The label that comes next has one list.
-    list_one : l ≡ l'
-    list_one = comes_one (lists_of b) (cursor b places) l l' f.0 g.0
+  -- It does not close and stay.
+  closes_one : {m n : Met} → coming ≡ Some m → coming ≡ Some n → Closes records m.start → (Closes records n.start → ⊥) → ⊥
+  closes_one c d h stays = stays (subst (λ (x : Met). Closes records x.start) (one c d) h)
 
-    -- It has one start.
-    start_one : u ≡ u'
-    start_one = cc (f.2, g.2, list_one)
-
-    -- It has one end.
-    end_one : v ≡ v'
-    end_one = cc (f.3, g.3, list_one)
-
-    -- So it does not close and stay.
-    closes_one : Closing u → (Closing u' → ⊥) → ⊥
-    closes_one c n = n (subst Closing start_one c)
-
-    -- Nor is it refused and free.
-    refuses_one : Refusing u v → (Refusing u' v' → ⊥) → ⊥
-    refuses_one r n = n (subst (λ (i : ℕ). Refusing i v') start_one (subst (Refusing u) end_one r))
+  -- Nor is it refused and free.
+  refuses_one : {m n : Met} → coming ≡ Some m → coming ≡ Some n → Refuses records m.start m.end → (Refuses records n.start n.end → ⊥) → ⊥
+  refuses_one c d h free = free (subst (λ (x : Met). Refuses records x.start x.end) (one c d) h)
 
   -- Two outcomes of a turn from the same entry are one.
-  pub turned_fixed : (tree₁ places₁ : List ℕ) (s₁ : State) (tree₂ places₂ : List ℕ) (s₂ : State) → Turned b m tree places s tree₁ places₁ s₁ → Turned b m tree places s tree₂ places₂ s₂
-      → Alike b tree₁ places₁ s₁ tree₂ places₂ s₂
-  turned_fixed tree₁ places₁ s₁ tree₂ places₂ s₂ = go
+  pub turned_fixed : (places₁ keys₁ : List ℕ) (turn₁ : Turn) (places₂ keys₂ : List ℕ) (turn₂ : Turn) → Turned b places keys records coming places₁ keys₁ turn₁ → Turned b places keys records coming places₂ keys₂ turn₂
+      → Alike b places₁ keys₁ turn₁ places₂ keys₂ turn₂
+  turned_fixed places₁ keys₁ turn₁ places₂ keys₂ turn₂ = go
     where
-      go : Turned b m tree places s tree₁ places₁ s₁ → Turned b m tree places s tree₂ places₂ s₂ → Alike b tree₁ places₁ s₁ tree₂ places₂ s₂
-      go (ends _ e te pe) (ends _ e' te' pe') = kept e te pe e' te' pe'
-      go (closes _ _ _ _ _ _ e te pe) (closes _ _ _ _ _ _ e' te' pe') = kept e te pe e' te' pe'
-      go (refuses _ _ _ _ _ _ _ e te pe) (refuses _ _ _ _ _ _ _ e' te' pe') = kept e te pe e' te' pe'
-      go (opens l _ _ _ x f _ _ h e) (opens _ _ _ _ x' g _ _ h' e') =
-          let walk = hands_out_fixed b m places l tree₁ places₁ tree₂ places₂ x x' h (subst (λ (r : ℕ). HandsOut b m places r tree₂ places₂ x') (sym (list_one f g)) h') in
+      go : Turned b places keys records coming places₁ keys₁ turn₁ → Turned b places keys records coming places₂ keys₂ turn₂ → Alike b places₁ keys₁ turn₁ places₂ keys₂ turn₂
+      go (ends _ e pe ke) (ends _ e' pe' ke') = kept e pe ke e' pe' ke'
+      go (closes _ _ _ e pe ke) (closes _ _ _ e' pe' ke') = kept e pe ke e' pe' ke'
+      go (refuses _ _ _ _ e pe ke) (refuses _ _ _ _ e' pe' ke') = kept e pe ke e' pe' ke'
+      go (opens m x c _ _ h e) (opens n y d _ _ h' e') =
+          let met : m ≡ n = one c d in
+          let walk = hands_out_fixed b places m.list places₁ keys₁ places₂ keys₂ x y h (subst (λ (z : Met). HandsOut b places z.list places₂ keys₂ y) (sym met) h') in
           record {
-            state = e ∙ (λ j. opened_state s.depth (start_one f g j) (end_one f g j) (list_one f g j) (walk.1 j)) ∙ sym e';
+            turn = e ∙ (λ j. Opened (opened (met j)) (walk.1 j)) ∙ sym e';
             place = walk.0;
-            arrays = λ p. absurd (true≢false (sym (ap (λ (z : State). z.put) e) ∙ p));
+            walk = λ p. absurd (p (subst Opening (sym e) tt));
           }
-      go (ends f _ _ _) (closes _ _ _ _ g _ _ _ _) = absurd (none f g)
-      go (ends f _ _ _) (refuses _ _ _ _ g _ _ _ _ _) = absurd (none f g)
-      go (ends f _ _ _) (opens _ _ _ _ _ g _ _ _ _) = absurd (none f g)
-      go (closes _ _ _ _ f _ _ _ _) (ends g _ _ _) = absurd (none g f)
-      go (refuses _ _ _ _ f _ _ _ _ _) (ends g _ _ _) = absurd (none g f)
-      go (opens _ _ _ _ _ f _ _ _ _) (ends g _ _ _) = absurd (none g f)
-      go (closes _ _ _ _ f c _ _ _) (refuses _ _ _ _ g n _ _ _ _) = absurd (closes_one f g c n)
-      go (closes _ _ _ _ f c _ _ _) (opens _ _ _ _ _ g n _ _ _) = absurd (closes_one f g c n)
-      go (refuses _ _ _ _ f n _ _ _ _) (closes _ _ _ _ g c _ _ _) = absurd (closes_one g f c n)
-      go (opens _ _ _ _ _ f n _ _ _) (closes _ _ _ _ g c _ _ _) = absurd (closes_one g f c n)
-      go (refuses _ _ _ _ f _ r _ _ _) (opens _ _ _ _ _ g _ n _ _) = absurd (refuses_one f g r n)
-      go (opens _ _ _ _ _ f _ n _ _) (refuses _ _ _ _ g _ r _ _ _) = absurd (refuses_one g f r n)
+      go (ends c _ _ _) (closes _ d _ _ _ _) = absurd (none c d)
+      go (ends c _ _ _) (refuses _ d _ _ _ _ _) = absurd (none c d)
+      go (ends c _ _ _) (opens _ _ d _ _ _ _) = absurd (none c d)
+      go (closes _ c _ _ _ _) (ends d _ _ _) = absurd (none d c)
+      go (refuses _ c _ _ _ _ _) (ends d _ _ _) = absurd (none d c)
+      go (opens _ _ c _ _ _ _) (ends d _ _ _) = absurd (none d c)
+      go (closes _ c h _ _ _) (refuses _ d n _ _ _ _) = absurd (closes_one c d h n)
+      go (closes _ c h _ _ _) (opens _ _ d n _ _ _) = absurd (closes_one c d h n)
+      go (refuses _ c n _ _ _ _) (closes _ d h _ _ _) = absurd (closes_one d c h n)
+      go (opens _ _ c n _ _ _) (closes _ d h _ _ _) = absurd (closes_one d c h n)
+      go (refuses _ c _ h _ _ _) (opens _ _ d _ n _ _) = absurd (refuses_one c d h n)
+      go (opens _ _ c _ n _ _) (refuses _ d _ h _ _ _) = absurd (refuses_one d c h n)

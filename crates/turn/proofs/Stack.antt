@@ -1,19 +1,23 @@
 -- The sweep of all lists in order of start: what it has seen, which records are open, and what a turn makes of that.
-use Prim.Native.Nat.{ℕ, suc, ◌<◌}
+use Prim.Native.Nat.{ℕ, suc, ◌-◌, ◌<◌}
 use mathlib.Core.Path.{◌≡◌}
 use mathlib.Core.Logic.{◌⊎◌, ◌≢◌}
-use mathlib.Core.Bool.{true, false, cond}
+use mathlib.Core.Bool.{cond}
 use mathlib.Core.List.{List}
 use lib.Dec.{ltb}
+use lib.ListN.{length}
+use Rattle.std.specs.Prelude.{Option}
 use Rattle.meaning.specs.Limits.{most_nested}
 use Rattle.meaning.specs.Labels.{Lists, Place, label_of, Holds, Inside, Nested, Tangled}
 use Rattle.meaning.specs.Answers.{Decides}
 use Rattle.meaning.specs.Day.{lists_of}
-use Rattle.order.specs.Walk.{start_of, end_of, Seen, Waits, next, Moved}
-use Rattle.order.specs.Standing.{cursor}
+use Rattle.order.specs.declared.Met.{Met}
+use Rattle.order.specs.Walk.{start_of, end_of, Seen, Waits, next, Moved, Foretells}
+use Rattle.order.specs.Standing.{cursor, Standing}
 use Rattle.open.specs.declared.Open.{Open}
-use Rattle.turn.specs.declared.State.{State}
-use Rattle.turn.specs.Sweep.{BeforeTurn}
+use Rattle.open.specs.Entries.{entry}
+use Rattle.turn.specs.declared.Turn.{Turn}
+use Rattle.turn.specs.declared.Turn.TheVariants.{Over, Closed, Opened}
 
 -- The label at x lies inside the one at y.
 abbrev pub LiesIn : Lists → Place → Place → Type 0
@@ -50,34 +54,28 @@ pub record Same (t : Lists) (x : Place) (inner : Open) : Type 0 where
   pub end : inner.end ≡ end_of t x
   pub list : inner.list ≡ x.list
 
--- The state's innermost record is the last of the open ones.
-abbrev pub Innermost : Lists → (ℕ → Place) → State → Type 0
-Innermost t stack s = (k : ℕ) → s.depth ≡ suc k → Same t (stack k) s.inner
-
--- The state's place is that of the last of the open records.
-abbrev pub Topmost : State → Type 0
-Topmost s = (k : ℕ) → s.depth ≡ suc k → s.at ≡ k
+-- The open records are those of the labels at the places.
+abbrev pub Held : Lists → (ℕ → Place) → List Open → Type 0
+Held t stack records = (k : ℕ) → k < length records → Same t (stack k) (entry records k)
 
 -- A turn that closes the innermost record.
-pub record ClosesOne (t : Lists) (pos : ℕ → ℕ) (stack : ℕ → Place) (s s' : State) : Type 0 where
-  pub one : s.depth ≡ suc s'.depth
-  pub top : Topmost s'
-  pub swept : Swept t pos stack s'.depth
-  pub least : s'.least ≡ s.least
+pub record ClosesOne (t : Lists) (pos : ℕ → ℕ) (stack : ℕ → Place) (depth : ℕ) : Type 0 where
+  pub some : 0 < depth
+  pub swept : Swept t pos stack (depth - 1)
 
 -- A turn that opens the label next in a list.
-pub record OpensOne (t : Lists) (pos pos' : ℕ → ℕ) (stack : ℕ → Place) (s s' : State) : Type 0 where
+pub record OpensOne (t : Lists) (pos pos' : ℕ → ℕ) (stack : ℕ → Place) (depth : ℕ) (inner : Open) : Type 0 where
   pub list : ℕ
   pub holds : Holds t (next pos list)
   pub moved : Moved pos pos' list
-  pub one : s'.depth ≡ suc s.depth
-  pub room : s.depth < most_nested
-  pub top : s'.at ≡ s.depth
-  pub same : Same t (next pos list) s'.inner
-  pub swept : Swept t pos' (pushed stack s.depth (next pos list)) s'.depth
+  pub room : depth < most_nested
+  pub same : Same t (next pos list) inner
+  pub swept : Swept t pos' (pushed stack depth (next pos list)) (suc depth)
 
--- What a turn makes of the state: the sweep is over and says whether something is wrong, or a record is closed, or one is opened.
-pub data Judged (b : List ℕ) (m : ℕ) (tree places : List ℕ) (stack : ℕ → Place) (s : State) (tree' places' : List ℕ) (s' : State) : Type 0 where
-  over : s'.going ≡ false → s'.put ≡ false → Decides (Tangled (lists_of b)) s'.wrong → Judged b m tree places stack s tree' places' s'
-  closing : s'.going ≡ true → s'.put ≡ false → tree' ≡ tree → places' ≡ places → ClosesOne (lists_of b) (cursor b places) stack s s' → Judged b m tree places stack s tree' places' s'
-  opening : s'.going ≡ true → s'.put ≡ true → BeforeTurn b m tree' places' s'.depth s'.least → OpensOne (lists_of b) (cursor b places) (cursor b places') stack s s' → Judged b m tree places stack s tree' places' s'
+-- What a turn makes of the sweep: it is over and says whether something is wrong, or a record is closed, or one is opened.
+abbrev pub Judged : (b places keys : List ℕ) → (ℕ → Place) → List Open → Option Met → (places' keys' : List ℕ) → Turn → Type 0
+Judged b places keys stack records coming places' keys' (Over wrong) = Decides (Tangled (lists_of b)) wrong
+Judged b places keys stack records coming places' keys' (Closed next) =
+    (next ≡ coming) × (places' ≡ places) × (keys' ≡ keys) × ClosesOne (lists_of b) (cursor b places) stack (length records)
+Judged b places keys stack records coming places' keys' (Opened inner next) =
+    Standing b places' keys' × Foretells (lists_of b) (cursor b places') next × OpensOne (lists_of b) (cursor b places) (cursor b places') stack (length records) inner

@@ -1,42 +1,36 @@
--- One turn of the sweep of all lists in order of start: what it may count on, and what it makes of the state.
-use Rattle.std.specs.Prelude.{ℕ, ◌-◌, ◌≤◌, ◌<◌, ◌≡◌, ◌⊎◌, true, false, List}
+-- One turn of the sweep of all lists in order of start: what it decides, and what it makes of the walk.
+use Rattle.std.specs.Prelude.{ℕ, ◌-◌, ◌≤◌, ◌<◌, ◌≡◌, ◌⊎◌, true, false, List, length, Option, Some, None}
 use Rattle.meaning.specs.Limits.{most_nested}
-use Rattle.meaning.specs.Day.{lists_of}
-use Rattle.order.specs.declared.Coming.{Coming}
-use Rattle.order.specs.declared.Coming.TheVariants.{Label, End}
-use Rattle.order.specs.Walk.{Foretells}
-use Rattle.order.specs.Standing.{cursor, Names, Standing, HandsOut}
-use Rattle.lists.specs.Ordering.{Ordered}
+use Rattle.order.specs.declared.Met.{Met}
+use Rattle.order.specs.Standing.{HandsOut}
 use Rattle.open.specs.declared.Open.{Open}
-use Rattle.turn.specs.declared.State.{State}
-use Rattle.turn.specs.States.{over_state, closed_state, opened_state}
+use Rattle.open.specs.Entries.{entry}
+use Rattle.turn.specs.declared.Turn.{Turn}
+use Rattle.turn.specs.declared.Turn.TheVariants.{Over, Closed, Opened}
+
+-- The innermost of the open records, which is the last.
+abbrev pub innermost : List Open → Open
+innermost records = entry records (length records - 1)
 
 -- The innermost open record ends before a start.
-abbrev pub Closes : ℕ → Open → ℕ → Type 0
-Closes depth inner start = (0 < depth) × (inner.end < start)
+abbrev pub Closes : List Open → ℕ → Type 0
+Closes records start = (0 < length records) × ((innermost records).end < start)
 
 -- A record that starts before the innermost open one has ended is refused: it starts with it, does not end before it, or is one too many.
-abbrev pub Refuses : ℕ → Open → ℕ → ℕ → Type 0
-Refuses depth inner start end = (0 < depth) × ((inner.start ≡ start) ⊎ (inner.end ≤ end) ⊎ (depth ≡ most_nested))
+abbrev pub Refuses : List Open → ℕ → ℕ → Type 0
+Refuses records start end = (0 < length records) × (((innermost records).start ≡ start) ⊎ ((innermost records).end ≤ end) ⊎ (length records ≡ most_nested))
 
--- What a turn may count on: a walk over all labels, with the number that names what comes next, and not more open records than there is room for.
-pub record BeforeTurn (b : List ℕ) (m : ℕ) (tree places : List ℕ) (depth least : ℕ) : Type 0 where
-  pub walk : Standing b m tree places
-  pub names : Names (lists_of b) (cursor b places) least
-  pub ordered : Ordered (lists_of b)
-  pub shallow : depth ≤ most_nested
-
--- What comes next in the walk.
-abbrev pub ComesNext : List ℕ → List ℕ → Coming → Type 0
-ComesNext b places = Foretells (lists_of b) (cursor b places)
+-- The record that a label is opened as.
+abbrev pub opened : Met → Open
+opened met = record { start = met.start; end = met.end; list = met.list }
 
 -- The contract of a turn, by what it decides: no label is left and nothing is wrong; or the label that comes next closes the innermost open
 -- record, or is refused, or is handed out and opened. The walk moves in the last case alone.
-pub data Turned (b : List ℕ) (m : ℕ) (tree places : List ℕ) (s : State) (tree' places' : List ℕ) (s' : State) : Type 0 where
-  ends : ComesNext b places End → s' ≡ over_state false → tree' ≡ tree → places' ≡ places → Turned b m tree places s tree' places' s'
-  closes : (list at start end : ℕ) → ComesNext b places (Label list at start end) → Closes s.depth s.inner start
-      → s' ≡ closed_state (s.depth - 1) s.least → tree' ≡ tree → places' ≡ places → Turned b m tree places s tree' places' s'
-  refuses : (list at start end : ℕ) → ComesNext b places (Label list at start end) → (Closes s.depth s.inner start → ⊥) → Refuses s.depth s.inner start end
-      → s' ≡ over_state true → tree' ≡ tree → places' ≡ places → Turned b m tree places s tree' places' s'
-  opens : (list at start end least : ℕ) → ComesNext b places (Label list at start end) → (Closes s.depth s.inner start → ⊥) → (Refuses s.depth s.inner start end → ⊥)
-      → HandsOut b m places list tree' places' least → s' ≡ opened_state s.depth start end list least → Turned b m tree places s tree' places' s'
+pub data Turned (b places keys : List ℕ) (records : List Open) (coming : Option Met) (places' keys' : List ℕ) (turn : Turn) : Type 0 where
+  ends : coming ≡ None → turn ≡ Over false → places' ≡ places → keys' ≡ keys → Turned b places keys records coming places' keys' turn
+  closes : (met : Met) → coming ≡ Some met → Closes records met.start → turn ≡ Closed coming → places' ≡ places → keys' ≡ keys
+      → Turned b places keys records coming places' keys' turn
+  refuses : (met : Met) → coming ≡ Some met → (Closes records met.start → ⊥) → Refuses records met.start met.end → turn ≡ Over true → places' ≡ places → keys' ≡ keys
+      → Turned b places keys records coming places' keys' turn
+  opens : (met : Met) (next : Option Met) → coming ≡ Some met → (Closes records met.start → ⊥) → (Refuses records met.start met.end → ⊥)
+      → HandsOut b places met.list places' keys' next → turn ≡ Opened (opened met) next → Turned b places keys records coming places' keys' turn

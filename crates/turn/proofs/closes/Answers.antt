@@ -1,13 +1,11 @@
--- `turn::closes` meets its contract: each way answers by its tests.
+-- `closes` meets its contract: the innermost record's end is tested, where there is one.
 use Rattle.std.proofs.Common.{arith}
-use Rattle.meaning.specs.Answers.{holds, fails}
+use Rattle.meaning.specs.Answers.{fails}
+use Rattle.meaning.proofs.Decide.{decides_as, lt_decides}
 use Rattle.turn.proofs.closes.Goals as goal
 
-pub returns-then-depth-eq0 : goal.returns-then-depth-eq0
-returns-then-depth-eq0 c = fails (λ h. omega (arith, h.0))
-
-pub returns-then-inner-start : goal.returns-then-inner-start
-returns-then-inner-start c = holds (omega arith, omega arith)
+pub returns-in_default : goal.returns-in_default
+returns-in_default c = fails (λ h. omega (arith, h.0, c.in_default.ensures))
 
 pub returns : goal.returns
-returns c = fails (λ h. omega (arith, h.1))
+returns c = let e = c.in-Some.ensures in rw (← e.1) (decides_as (λ h. (e.0, h)) (λ h. h.1) (lt_decides _ _))

@@ -1,4 +1,3 @@
 -- What the functions' proofs rest on, with no mention of code.
 pub mod CheckLaws
 pub mod Rounds
-pub mod Looping

@@ -1,3 +1,2 @@
 -- What the parts of the check promise to each other.
 pub mod ListsTable
-pub mod FirstTurn

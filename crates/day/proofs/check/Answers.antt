@@ -16,7 +16,7 @@ pub returns-then-lists_wrong : goal.returns-then-lists_wrong
 returns-then-lists_wrong c = lists_refuse _ 5 (contents_clear _ _ c.if-refusal-ne0.false c.refusal-refusal.ensures) (inl (if_true c.lists_wrong.ensures c.if-lists_wrong.true, refl))
 
 pub nesting_wrong-requires : goal.nesting_wrong-requires
-nesting_wrong-requires c = (placed_of _ (contents_clear _ _ c.if-refusal-ne0.false c.refusal-refusal.ensures), ordered_of _ (if_false c.lists_wrong.ensures c.if-lists_wrong.false))
+nesting_wrong-requires c = record { placed = placed_of _ (contents_clear _ _ c.if-refusal-ne0.false c.refusal-refusal.ensures); ordered = ordered_of _ (if_false c.lists_wrong.ensures c.if-lists_wrong.false) }
 
 pub returns-then-nesting_wrong : goal.returns-then-nesting_wrong
 returns-then-nesting_wrong c =

@@ -3,24 +3,23 @@
 
 mod sweep;
 
-ghost use Rattle.meaning.specs.Promises.{Checked};
+ghost use Rattle.meaning.specs.Refusals.{Judged, check_table};
 
+use lists::lists_wrong;
+use meaning::Refusal;
 use sweep::nesting_wrong;
 
-// The check call: the number of the first reason for which the index is refused, or 0 exactly for a lawful one. Each part may rest on what
-// the parts before it have found.
-pub fn check(index: &[u8]) -> u32
-    ensures { Checked index.now result }
+// The check call: the first reason for which the index is refused, or success exactly for a lawful one. Each part may rest on what the parts
+// before it have found.
+pub fn check(index: &[u8]) -> Result<(), Refusal>
+    ensures { Judged (check_table index.now) result }
 {
-    let refusal = table::refusal(index);
-    if refusal != 0 {
-        return refusal;
-    }
-    if lists::lists_wrong(index) {
-        return 5;
+    table::check(index)?;
+    if lists_wrong(index) {
+        return Err(Refusal::WrongLists);
     }
     if nesting_wrong(index) {
-        return 6;
+        return Err(Refusal::WrongNesting);
     }
-    0
+    Ok(())
 }

@@ -2,16 +2,21 @@
 use Prim.Native.Nat.{ℕ, suc, ◌+◌, ◌≤◌, ◌<◌}
 use native.Mathlib.Nat.{eq-or-lt_of_le}
 use native.Mathlib.Omega.{arith}
-use mathlib.Core.Path.{◌≡◌, sym, ap, subst, ◌∙◌}
+use mathlib.Core.Path.{◌≡◌, refl, sym, ap, subst, ◌∙◌}
+use Rattle.std.proofs.Common.{zero-add}
+use Rattle.std.specs.Bool.{MatchBool}
+use Rattle.std.specs.List.{range_with_len, AllWithin, HoldsAt}
+use Rattle.std.proofs.lemmas.List.FromFn.{length-range_with_len, get_or-range_with_len}
 use mathlib.Core.Logic.{inl, inr, ⊎_elim}
 use mathlib.Core.Bool.{Bool, true, false}
 use mathlib.Core.List.{List}
 use lib.ListN.{length}
-use Rattle.meaning.specs.declared.Body.{Body}
 use Rattle.meaning.specs.Bytes.{at}
 use Rattle.meaning.specs.Day.{tags, row_list}
 use Rattle.meaning.specs.Waits.{NoEntry, TimesDescend}
-use Rattle.meaning.specs.Refusals.{Lawful}
+use Rattle.std.specs.Prelude.{Ok, Err}
+use Rattle.meaning.specs.declared.refusal.Refusal.TheVariants as why
+use Rattle.meaning.specs.Refusals.{Lawful, Judged, times_table}
 use Rattle.meaning.specs.Answers.{Decides, holds, fails}
 use Rattle.meaning.proofs.Decide.{decides_as}
 use Rattle.meaning.proofs.Laws.Day.{lawful_index}
@@ -26,9 +31,32 @@ pub none_missing : (b times : List ℕ) → Lawful b → ((r : ℕ) → r < tags
 none_missing b times law none (x, h, inr past) = none x.list h.list_lt (x.at, h.at_lt, past)
 none_missing b times law none (x, h, inl past) = none x.list h.list_lt (x.at, h.at_lt, omega (arith, (lawful_index b law).ordered x h))
 
--- What is not so of a row's list is not so of the list of a row that it is equal to.
-pub none_past : (b : List ℕ) (entries : ℕ) {l : Body} (q r : ℕ) → l ≡ row_list b q → q ≡ r → (EndsPast b l entries → ⊥) → EndsPast b (row_list b r) entries → ⊥
-none_past b entries q r is same none h = none (subst (λ (l : Body). EndsPast b l entries) (sym (is ∙ ap (row_list b) same)) h)
+-- What `any` answers over the numbers below n.
+pub any_below : (P : ℕ → Type 0) (n : ℕ) (r : Bool)
+    → MatchBool r ((k : ℕ) × (k < length (range_with_len 0 n)) × HoldsAt P (range_with_len 0 n) k) (AllWithin (λ i. P i → ⊥) (range_with_len 0 n) 0 (length (range_with_len 0 n)))
+    → Decides ((i : ℕ) × (i < n) × P i) r
+any_below P n true (k, l, h) =
+    let below : k < n = omega (arith, length-range_with_len 0 n) in
+    holds (k, below, subst P (get_or-range_with_len 0 n k 0 below ∙ zero-add k) (h 0))
+any_below P n false h =
+    fails (λ (i, l, p). h i 0 (omega arith) (omega (arith, length-range_with_len 0 n)) (subst P (sym (get_or-range_with_len 0 n i 0 l ∙ zero-add i)) p))
+
+-- So a look at each list decides whether an entry is missing.
+pub missing_decides : (b times : List ℕ) {r : Bool} → Lawful b → Decides ((q : ℕ) × (q < tags b) × EndsPast b (row_list b q) (length times)) r → Decides (NoEntry b times) r
+missing_decides b times law (holds (q, l, h)) = holds (missing_by b times q l h)
+missing_decides b times law (fails none) = fails (none_missing b times law (λ q l h. none (q, l, h)))
+
+-- What is given where an entry is missing, where none is and the times descend, and where neither is so.
+module _ (b times : List ℕ) where
+  pub refused_20 : NoEntry b times → Judged {A = Unit {0}} (times_table b times) (Err why.NoEntry)
+  refused_20 h = inl (h, refl)
+
+  module _ (timed : NoEntry b times → ⊥) where
+    pub refused_21 : TimesDescend times → Judged {A = Unit {0}} (times_table b times) (Err why.TimesDescend)
+    refused_21 h = inr (timed, inl (h, refl))
+
+    pub timely : (done : Unit {0}) → (TimesDescend times → ⊥) → Judged {A = Unit {0}} (times_table b times) (Ok done)
+    timely done h = (timed, (h, tt))
 
 -- Of the first i entries one is smaller than the one before.
 abbrev pub DescendTo : List ℕ → ℕ → Type 0

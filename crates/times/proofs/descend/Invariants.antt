@@ -1,11 +1,12 @@
--- What keeps the loop: whether one of the first i entries is smaller than the one before is known.
-use Rattle.std.proofs.Common.{◌-◌, ◌≤◌, length}
+-- What keeps the loop: whether one of the entries up to the first of what is left is smaller than the one before is known.
+use Rattle.std.proofs.Common.{◌≡◌, ◌+◌, ◌-◌, ◌≤◌, length, drop}
+use Rattle.std.specs.Slice.Iter.{windows_size, windows_rest}
 use Rattle.meaning.specs.Answers.{Decides}
 use Rattle.times.proofs.Looking.{DescendTo}
 use Rattle.times.proofs.descend.Given as goal
 
-abbrev pub invariant-loop-i : goal.invariant-loop-i
-invariant-loop-i l = (1 ≤ l.i) × Decides (DescendTo l.times l.i) l.smaller
-
-abbrev pub decreases-loop-i : goal.decreases-loop-i
-decreases-loop-i l = length l.times - l.i
+abbrev pub invariant-loop-pair : goal.invariant-loop-pair
+invariant-loop-pair l =
+    let rest = windows_rest l.pair-iterator in
+    let i = length l.times - length rest in
+    (windows_size l.pair-iterator ≡ 2) × (length rest ≤ length l.times) × (rest ≡ drop i l.times) × Decides (DescendTo l.times (i + 1)) l.smaller

@@ -1,27 +1,16 @@
--- The rows and the lists of a lawful index lie within it, and what holds of the list that is looked at holds of the row's.
-use Rattle.std.proofs.Common.{sym, subst, length, below_more, arith}
-use Rattle.meaning.specs.declared.Body.{Body}
-use Rattle.meaning.specs.Answers.{holds, fails}
+-- `any` over the rows asks each whether a label of its list ends past the entries.
+use Rattle.std.proofs.Common.{ℕ, length, refl, rules, arith}
+use Rattle.std.proofs.lemmas.Iterator.{cases_from_any, YieldsList-from_range}
+use Rattle.meaning.specs.Day.{tags, row_list}
 use Rattle.meaning.proofs.Decide.{if_true, if_false}
-use Rattle.contents.specs.Parts.{InIndex}
-use Rattle.contents.proofs.Placing.{lawful_placed}
 use Rattle.times.specs.Entries.{EndsPast}
-use Rattle.times.proofs.Looking.{missing_by, none_missing, none_past}
+use Rattle.times.proofs.Looking.{any_below, missing_decides}
 use Rattle.times.proofs.entry_missing.Goals as goal
 
-pub ends_past-requires : goal.ends_past-requires
-ends_past-requires c = let b = c.args.index.now in subst (InIndex b) (sym c.list_of.ensures) ((lawful_placed b c.requires).held _ (omega arith))
-
-pub returns-then-ends_past : goal.returns-then-ends_past
-returns-then-ends_past c =
-    let b = c.args.index.now in
-    let times = c.args.times.now in
-    holds (missing_by b times _ (omega arith) (subst (λ (l : Body). EndsPast b l (length times)) c.list_of.ensures (if_true c.ends_past.ensures c.if-ends_past.true)))
-
-pub loop-r-preserved : goal.loop-r-preserved
-loop-r-preserved c =
-    below_more _ _ c.loop-r.invariant
-    (none_past c.args.index.now _ _ c.loop-r.r c.list_of.ensures (omega arith) (if_false c.ends_past.ensures c.if-ends_past.false))
-
 pub returns : goal.returns
-returns c = fails (none_missing c.args.index.now c.args.times.now c.requires (λ r l. c.loop-r.invariant r (omega arith)))
+returns c =
+    let b = c.args.day.index.now in
+    let Past : ℕ → Type 0 = λ r. EndsPast b (row_list b r) (length c.args.times.now) in
+    missing_decides b c.args.times.now c.args.day.lawful
+    (any_below Past (tags b) c.any.result
+    (cases_from_any _ _ _ Past (λ r. Past r → ⊥) c.any.ensures.ran (YieldsList-from_range 0 c.tags.result (tags b) refl (omega arith)) (λ x q k. search (rules, if_true)) (λ x q k. search (rules, if_false))))

@@ -6,10 +6,11 @@ use mathlib.Core.Bool.{true, false, false≢true}
 use mathlib.Core.List.{List, [], ◌∷◌, ◌++◌}
 use lib.ListN.{length, take, drop, take-append-drop, length-drop}
 use lib.Dec.{eqb}
-use lib.Seq.{drop-drop, length-take-le, take_all}
+use lib.Seq.{drop-drop, length-take-le}
 use denote.Ref.{Bor}
 use Rattle.std.specs.Prelude.{Option, Some, None, Ok}
 use Rattle.std.specs.Cmp.Lexicographic.{pointwise}
+use Rattle.std.proofs.lemmas.List.{take_rest}
 use Rattle.std.proofs.lemmas.Bool.Decides.{Decides-eqb}
 use Rattle.std.proofs.lemmas.Slice.Eq.{strip_prefix_is}
 use Rattle.meaning.specs.Limits.{most_name}
@@ -28,21 +29,17 @@ unfolding is_name
 name_some [] h = absurd (false≢true h)
 name_some (c ∷ cs) h = omega arith
 
--- The rest of a text from place k on, by its length, is that rest.
-rest_all : (t : List ℕ) (k : ℕ) → take (length t - k) (drop k t) ≡ drop k t
-rest_all t k = take_all (length t - k) (drop k t) (omega (arith, length-drop k t))
-
 -- `//`.
 abbrev slashes : List ℕ
 slashes = 47 ∷ 47 ∷ []
 
 -- Where no `//` stands, no step stands.
 pub no_slashes : (t : List ℕ) (at : ℕ) → pointwise eqb (take 2 (take (length t - at) (drop at t))) slashes ≡ false → NoStep t at
-no_slashes t at h n s hn hs e = strip_prefix_is Decides-eqb (take (length t - at) (drop at t)) slashes None h (n ++ s) (rest_all t at ∙ e)
+no_slashes t at h n s hn hs e = strip_prefix_is Decides-eqb (take (length t - at) (drop at t)) slashes None h (n ++ s) (take_rest t at ∙ e)
 
 -- Where `//` stands, what is left without it stands behind it.
 pub behind_slashes : (t : List ℕ) (at : ℕ) (x : Bor (List ℕ)) → (pointwise eqb (take 2 (take (length t - at) (drop at t))) slashes ≡ true) × (x.now ≡ drop 2 (take (length t - at) (drop at t))) × (length x.now + 2 ≡ length (take (length t - at) (drop at t))) → drop at t ≡ 47 ∷ 47 ∷ x.now
-behind_slashes t at x h = sym (rest_all t at) ∙ strip_prefix_is Decides-eqb (take (length t - at) (drop at t)) slashes (Some x) h
+behind_slashes t at x h = sym (take_rest t at) ∙ strip_prefix_is Decides-eqb (take (length t - at) (drop at t)) slashes (Some x) h
 
 -- The text t from place `at` on, where `//` stands before r.
 module _ (t : List ℕ) (at : ℕ) (r : List ℕ) (e : drop at t ≡ 47 ∷ 47 ∷ r) where

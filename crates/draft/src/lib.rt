@@ -15,7 +15,8 @@ use name::name_run;
 #[derive(Clone, Copy, Debug, PartialEq, Eq)]
 pub struct Broken;
 
-// How far the reading has come. There is one for a whole text, which each open bracket is lent.
+// How far the reading has come. There is one for a whole text, which each open bracket is lent. The text is no part of it, so that the theorems
+// which fix what a reading gives (`step_fixed`, `path_fixed`) compare whole drafts.
 #[derive(Clone, Copy)]
 pub struct Draft {
     // The steps in text order, of which the first 32 are kept; as memory is fixed, it is an array, and the others are only counted.

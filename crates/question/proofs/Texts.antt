@@ -1,13 +1,13 @@
 -- The whole text: a path from its first byte to its end is a tree that writes it, and what was read is the question of that tree.
-use Prim.Native.Nat.{ℕ, zero, suc, ◌+◌, ◌-◌, ◌≤◌, ◌<◌, max}
-use native.Mathlib.Numerals.{unary_clauses}
+use Prim.Native.Nat.{ℕ, ◌+◌, ◌-◌, ◌≤◌, ◌<◌, max}
 use native.Mathlib.Omega.{arith}
 use mathlib.Core.Path.{◌≡◌, refl, sym, ap, ap₂, ◌∙◌, subst}
 use mathlib.Core.List.{List, [], ◌++◌}
 use lib.ListN.{length, drop, replicate, length-append, length-drop, length-replicate, drop_of_length-le}
-use lib.Seq.{sets, sets-eq, drop-nil}
+use lib.Seq.{sets, sets-eq}
 use Rattle.std.specs.Prelude.{Option, None, Result, Ok, Err}
 use Rattle.std.specs.Result.{result_or}
+use Rattle.std.proofs.lemmas.List.{drop-replicate}
 use Rattle.meaning.specs.declared.Step.{Step}
 use Rattle.meaning.specs.declared.refusal.Refusal.{Refusal}
 use Rattle.meaning.specs.Limits.{most_text, most_steps}
@@ -22,17 +22,11 @@ use Rattle.path.proofs.Sizes.{write_before, stored_long, cut_path}
 use Rattle.path.proofs.Reaching.{one_path}
 use Rattle.question.specs.Questions.{hook_number}
 
--- The end of a list of equal entries.
-drop_replicate : (n m : ℕ) (x : Step) → drop n (replicate m x) ≡ replicate (m - n) x
-drop_replicate zero m x = simp unary_clauses
-drop_replicate (suc n) zero x = let none : 0 - suc n ≡ 0 = omega arith in rw none (drop-nil (suc n))
-drop_replicate (suc n) (suc m) x = simp unary_clauses (drop_replicate n m x)
-
 -- Steps put into blank entries, of which there are enough, have the blank ones behind them that are left.
 sets_blank : (m : ℕ) (xs : List Step) → length xs ≤ m → sets (replicate m blank_step) 0 xs ≡ xs ++ replicate (m - length xs) blank_step
 sets_blank m xs h =
     let same : 0 + length xs ≡ length xs = omega arith in
-    sets-eq xs (replicate m blank_step) 0 (omega (arith, length-replicate m blank_step)) ∙ ap (λ (l : List Step). xs ++ l) (ap (λ (k : ℕ). drop k (replicate m blank_step)) same ∙ drop_replicate (length xs) m blank_step)
+    sets-eq xs (replicate m blank_step) 0 (omega (arith, length-replicate m blank_step)) ∙ ap (λ (l : List Step). xs ++ l) (ap (λ (k : ℕ). drop k (replicate m blank_step)) same ∙ drop-replicate (length xs) m blank_step)
 
 -- The draft before the first byte has no step.
 fresh_count : fresh.count ≡ 0

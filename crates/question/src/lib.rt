@@ -40,11 +40,11 @@ pub fn read(text: &[u8]) -> Result<Question, Refusal>
 }
 
 // A step's name, as a part of the text.
-pub fn name_of<'a>(text: &'a [u8], s: Step) -> &'a [u8]
-    requires { s.start + s.length ≤ length text.now }
-    ensures { result.now ≡ take s.length (drop s.start text.now) }
+pub fn name_of<'a>(text: &'a [u8], step: Step) -> &'a [u8]
+    requires { step.start + step.length ≤ length text.now }
+    ensures { result.now ≡ take step.length (drop step.start text.now) }
 {
-    let from = usize::from(s.start);
-    let to = from + usize::from(s.length);
+    let from = usize::from(step.start);
+    let to = from + usize::from(step.length);
     &text[from..to]
 }

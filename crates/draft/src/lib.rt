@@ -41,7 +41,7 @@ fn step_length(text: &[u8], at: usize) -> Option<u8>
     if length == 0 || length > Name::MOST_BYTES {
         return None;
     }
-    Some(length as u8)
+    Some(length as u8) // `as` is proved to lose nothing; `try_from` would make a failure that can't be.
 }
 
 // Whether a `]` stands at `at`.
@@ -90,7 +90,7 @@ impl Draft {
             self.steps[number] = Step {
                 start,
                 length,
-                hangs: hang.map(|step| step as u8),
+                hangs: hang.map(|step| step as u8), // `as` is proved to lose nothing here, where the step is kept.
             };
         }
         self.last = self.count;

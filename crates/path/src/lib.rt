@@ -18,6 +18,7 @@ pub fn read_path(
     ensures { PathRead text.now hang depth draft.old (handed_on result draft.new) }
 {
     draft.step(text, hang, depth)?;
+    // How far a turn goes on depends on what it reads, so that nothing counts the turns: a `while`.
     while !ends(text, usize::from(draft.at)) {
         let me = draft.last;
         if text[usize::from(draft.at)] == b'[' {

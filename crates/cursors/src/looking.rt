@@ -16,22 +16,30 @@ pub enum Sight {
     Touching,
 }
 
-// Looks from record q of the list `over` at record p of a list.
-pub fn look(index: &[u8], list: Body, p: usize, over: Body, q: usize) -> Sight
-    requires one { p < list.count }
-    requires held { list.offset + 8 * list.count ≤ length index.now }
-    requires above { over.offset + 8 * q + 8 ≤ length index.now }
-    requires ascends { Ascends index.now list.offset list.count }
-    ensures { Looks index.now list p over q result }
+// A record, as its list and its position there.
+#[derive(Clone, Copy)]
+pub struct Record {
+    pub list: Body,
+    pub at: usize,
+}
+
+// Looks at a record from one that it is to lie in.
+pub fn look(index: &[u8], inner: Record, outer: Record) -> Sight
+    requires one { inner.at < inner.list.count }
+    requires held { inner.list.offset + 8 * inner.list.count ≤ length index.now }
+    requires above { outer.list.offset + 8 * outer.at + 8 ≤ length index.now }
+    requires ascends { Ascends index.now inner.list.offset inner.list.count }
+    ensures { Looks index.now inner outer result }
 {
-    let here = label::start_at(index, list.offset, p);
-    let above = label::start_at(index, over.offset, q);
+    let Record { list, at } = inner;
+    let here = label::start_at(index, list.offset, at);
+    let above = label::start_at(index, outer.list.offset, outer.at);
     if here <= above {
-        // Record p and those before it start no later, so that the search begins behind them.
-        let later = label::started_from(index, list.offset, list.count, p + 1, above);
+        // The record and those before it start no later, so that the search begins behind them.
+        let later = label::started_from(index, list.offset, list.count, at + 1, above);
         return Sight::Early(later);
     }
-    let last = label::end_at(index, over.offset, q);
+    let last = label::end_at(index, outer.list.offset, outer.at);
     if last < here {
         return Sight::Late;
     }

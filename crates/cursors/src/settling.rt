@@ -6,7 +6,7 @@ ghost use Rattle.cursors.specs.Plan.{plan_of, Planned};
 ghost use Rattle.cursors.specs.Cursors.{Unbroken, Settled};
 
 use crate::Plan;
-use crate::looking::{Sight, look};
+use crate::looking::{Record, Sight, look};
 use meaning::Step;
 
 // A plan over the index that it was made for.
@@ -42,7 +42,15 @@ impl Engine<'_> {
                 Some(above) => {
                     let u = usize::from(above);
                     let q = pos[u];
-                    match look(self.index, step.list, p, steps[u].list, q) {
+                    let inner = Record {
+                        list: step.list,
+                        at: p,
+                    };
+                    let outer = Record {
+                        list: steps[u].list,
+                        at: q,
+                    };
+                    match look(self.index, inner, outer) {
                         Sight::Early(r) => {
                             pos[s] = r;
                         }

@@ -155,6 +155,10 @@ pub ret_of : {b : List ℕ} {p : Plan} → Planned b p → p.returned < p.count
 unfolding plan_of
 ret_of planned = planned.fit.returned_lt
 
+-- And so it is one of 32.
+pub ret_few : {b : List ℕ} {p : Plan} → Planned b p → p.returned < 32
+ret_few planned = omega (arith, ret_of planned, planned.few)
+
 -- What is at most the number of a plan's steps is at most its count.
 pub steps_of : (b : List ℕ) (p : Plan) {n : ℕ} → n ≤ (plan_of b p).steps → n ≤ p.count
 unfolding plan_of

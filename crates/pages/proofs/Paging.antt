@@ -9,9 +9,14 @@ use mathlib.Core.Logic.{inl, inr, ⊎_elim}
 use mathlib.Core.Bool.{Bool, true, false, true≢false, false≢true}
 use mathlib.Core.List.{List, [], ◌∷◌, ◌++◌, append-nil, append_assoc}
 use lib.Dec.{ltb}
-use lib.ListN.{length, get_or, set, replicate, take, drop, take-append-drop, length-append, length-set}
+use lib.ListN.{length, get_or, set, replicate, take, drop, take-append-drop, length-append, length-drop, length-set}
 use lib.Seq.{get_or-take, length-take-le, get_or-set_same, get_or-set_other, take-append_seam, take-take, take-nil, drop-drop}
+use borrow.Rule.Slice.PartMut.{put_mid}
+use Rattle.std.specs.Prelude.{Option}
+use Rattle.std.proofs.lemmas.List.{get_or-drop, length-take}
+use Rattle.std.proofs.lemmas.Slice.{take-put_mid, drop-put_mid}
 use Rattle.meaning.specs.declared.Page.{Page}
+use Rattle.meaning.specs.Limits.{most_labels}
 use Rattle.meaning.specs.Bytes.{at}
 use Rattle.meaning.specs.Picks.{Asked, Pick, Returned, Evidence}
 use Rattle.meaning.specs.Pages.{Records, Rows, none, row, Paged}
@@ -19,7 +24,10 @@ use Rattle.meaning.specs.Fit.{Fit}
 use Rattle.meaning.proofs.Laws.Bytes.{zero_at}
 use Rattle.meaning.proofs.Laws.Pick.{same_pick}
 use Rattle.meaning.proofs.Laws.Record.{records_of, records_found}
+use Rattle.cursors.specs.declared.Plan.{Plan}
+use Rattle.cursors.specs.Plan.{plan_of, Planned}
 use Rattle.cursors.specs.Cursors.{AtMost, LeastPick, NoPick, Settled, found, ended, Unbroken}
+use Rattle.pages.specs.RowParts.{PartOf}
 use Rattle.cursors.proofs.Moves.{set_cases, edge_of, unbroken_before}
 
 -- i is the first returned record at `place` or later.
@@ -96,43 +104,50 @@ module _ (a : Asked) (fit : Fit a) (xs : List ℕ) (f : Floor a xs) where
         same : (j : ℕ) → j < a.returned → at (set ys a.returned v) j ≡ at ys j
         same j l = get_or-set_other ys a.returned j v 0 (ne_of_lt l)
 
--- The loop's invariant: n rows are written, up to `to`, for the records `is`, and the records from the returned cursor on complete those of
--- the page's place.
-pub record Writing (a : Asked) (Row : ℕ → List ℕ → Type 0) (place room width : ℕ) (entry out xs : List ℕ) (n to first : ℕ) : Type 0 where
+-- The loop's invariant: n rows are written for the records `is`, and the records from the returned cursor on complete those of the page's
+-- place.
+pub record Writing (a : Asked) (Row : ℕ → List ℕ → Type 0) (place room width : ℕ) (entry out xs : List ℕ) (n first : ℕ) : Type 0 where
   pub len : length xs ≡ 32
   pub same : length out ≡ length entry
   pub n_le : n ≤ room
-  pub to_is : to ≡ n * width
   pub floor : Floor a xs
   pub first_le : first ≤ a.steps
   pub held : Unbroken a (at xs) first
   pub is : List ℕ
   pub long : length is ≡ n
-  pub rows : Rows Row is (take to out)
-  pub kept : drop to out ≡ drop to entry
+  pub rows : Rows Row is (take (n * width) out)
+  pub kept : drop (n * width) out ≡ drop (n * width) entry
   pub rest : (js : List ℕ) → Records a (at xs a.returned) js → Records a place (is ++ js)
 
-module _ (a : Asked) (fit : Fit a) (Row : ℕ → List ℕ → Type 0) (place room width : ℕ) (entry out xs : List ℕ) (n to first : ℕ)
-    (w : Writing a Row place room width entry out xs n to first) (fits : to ≤ length entry) where
+-- A part of a buffer that is written leaves the buffer as long as it was.
+length-put_mid : (to k : ℕ) (xs v : List ℕ) → to + k ≤ length xs → length v ≡ k → length (put_mid to k xs v) ≡ length xs
+length-put_mid to k xs v l e = simp (length-append, length-drop) (omega (arith, length-take-le to xs (omega arith)))
+
+-- The row after n rows begins a row's width further.
+row_on : (n width : ℕ) → (n + 1) * width ≡ n * width + width
+row_on n width = omega (arith, suc-mul n width, ap (λ (k : ℕ). k * width) (add-one n))
+
+module _ {a : Asked} (fit : Fit a) {Row : ℕ → List ℕ → Type 0} {place room width : ℕ} {entry out xs : List ℕ} {n first : ℕ}
+    (w : Writing a Row place room width entry out xs n first) (fits : n * width ≤ length entry) where
   -- What is written is the buffer's beginning, and the rest is as it was.
-  buffer : out ≡ take to out ++ drop (length (take to out)) entry
-  buffer = sym (take-append-drop to out) ∙ ap (λ (t : List ℕ). take to out ++ t) (w.kept ∙ ap (λ (k : ℕ). drop k entry) (sym (length-take-le to out (omega (arith, w.same)))))
+  buffer : out ≡ take (n * width) out ++ drop (length (take (n * width) out)) entry
+  buffer =
+      sym (take-append-drop (n * width) out) ∙ ap (λ (t : List ℕ). take (n * width) out ++ t) (w.kept ∙ ap (λ (k : ℕ). drop k entry) (sym (length-take-le (n * width) out (omega (arith, w.same)))))
 
   -- The page where all records from the returned cursor on are known.
-  ending : (js : List ℕ) → Records a (at xs a.returned) js → (r : Page) → r.refusal ≡ 0 → r.rows ≡ n → r.rows ≡ min room (n + length js)
+  ending : (js : List ℕ) → Records a (at xs a.returned) js → (r : Page) → r.rows ≡ n → r.rows ≡ min room (n + length js)
       → r.more ≡ ltb n (n + length js) → r.next ≡ get_or js 0 (a.count a.returned) → Paged a Row place room entry out r
-  ending js rec r e₁ e₂ e₃ e₄ e₅ =
+  ending js rec r e₁ e₂ e₃ e₄ =
       let long : length (w.is ++ js) ≡ n + length js = length-append w.is js ∙ ap (λ (k : ℕ). k + length js) w.long in
       record {
         all = w.is ++ js;
         records = w.rest js rec;
-        written = take to out;
-        rows_written = subst (λ (ks : List ℕ). Rows Row ks (take to out)) (sym (ap (λ (k : ℕ). take k (w.is ++ js)) (e₂ ∙ sym w.long) ∙ take-append_seam w.is js)) w.rows;
+        written = take (n * width) out;
+        rows_written = subst (λ (ks : List ℕ). Rows Row ks (take (n * width) out)) (sym (ap (λ (k : ℕ). take k (w.is ++ js)) (e₁ ∙ sym w.long) ∙ take-append_seam w.is js)) w.rows;
         buffer = buffer;
-        refusal = e₁;
-        rows = e₃ ∙ ap (min room) (sym long);
-        more = e₄ ∙ ap₂ ltb (sym e₂) (sym long);
-        next = e₅ ∙ sym (ap (λ (k : ℕ). get_or (w.is ++ js) k (a.count a.returned)) (e₂ ∙ sym w.long) ∙ seam w.is js (a.count a.returned));
+        rows = e₂ ∙ ap (min room) (sym long);
+        more = e₃ ∙ ap₂ ltb (sym e₁) (sym long);
+        next = e₄ ∙ sym (ap (λ (k : ℕ). get_or (w.is ++ js) k (a.count a.returned)) (e₁ ∙ sym w.long) ∙ seam w.is js (a.count a.returned));
       }
     where
       seam : (ks ls : List ℕ) (d : ℕ) → get_or (ks ++ ls) (length ks) d ≡ get_or ls 0 d
@@ -140,67 +155,68 @@ module _ (a : Asked) (fit : Fit a) (Row : ℕ → List ℕ → Type 0) (place ro
       seam (k ∷ ks) ls d = seam ks ls d
 
   -- No record is left.
-  pub page_done : NoPick a (at xs) → (unknown : ℕ) → Paged a Row place room entry out (record { refusal = 0; rows = n; more = false; next = a.count a.returned; unknown = unknown })
-  page_done no-pick unknown =
-      ending [] (done_of a fit xs w.floor no-pick) (record { refusal = 0; rows = n; more = false; next = a.count a.returned; unknown = unknown }) refl refl (omega (arith, w.n_le)) (sym (le-ltb n (n + 0) (omega arith))) refl
+  pub page_done : NoPick a (at xs) → (m : ℕ) → m ≡ n → (unknown : Option ℕ) → Paged a Row place room entry out (record { rows = m; more = false; next = a.count a.returned; unknown = unknown })
+  page_done no-pick m e unknown =
+      ending [] (done_of a fit xs w.floor no-pick) (record { rows = m; more = false; next = a.count a.returned; unknown = unknown }) e (omega (arith, w.n_le, e)) (sym (le-ltb n (n + 0) (omega arith))) refl
 
   module _ (ys : List ℕ) (least : LeastPick a (at xs) (at ys)) where
     -- A record is left, and the page is full.
-    pub page_full : n ≡ room → (unknown : ℕ) → Paged a Row place room entry out (record { refusal = 0; rows = n; more = true; next = at ys a.returned; unknown = unknown })
-    page_full e unknown =
+    pub page_full : (m : ℕ) → m ≡ n → n ≡ room → (unknown : Option ℕ) → Paged a Row place room entry out (record { rows = m; more = true; next = at ys a.returned; unknown = unknown })
+    page_full m e full unknown =
         let i : ℕ = at ys a.returned in
         let js : List ℕ = records_of a (i + 1) in
         let rec : Records a (at xs a.returned) (i ∷ js) = records_next a (at xs a.returned) i js (next_of a fit xs w.floor ys least) (records_found a fit (i + 1)) in
-        ending (i ∷ js) rec (record { refusal = 0; rows = n; more = true; next = i; unknown = unknown }) refl refl (omega (arith, e)) (sym (lt-ltb n (n + suc (length js)) (omega arith))) refl
+        ending (i ∷ js) rec (record { rows = m; more = true; next = i; unknown = unknown }) e (omega (arith, e, full)) (sym (lt-ltb n (n + suc (length js)) (omega arith))) refl
 
-    -- A row v is written behind the others. The cursors are settled again from the returned step on, or from a step before it.
-    pub page_row : n < room → length ys ≡ 32 → a.steps ≤ 32 → (out' v : List ℕ) → Row (at ys a.returned) v → length out' ≡ length out
-        → take (to + width) out' ≡ take to out ++ v → drop (to + width) out' ≡ drop (to + width) out → (first' : ℕ) → first' ≤ a.returned
-        → Writing a Row place room width entry out' (set ys a.returned (at ys a.returned + 1)) (n + 1) (to + width) first'
-    page_row l yl k32 out' v is_row same head tail first' fl =
+    -- A row v is written behind the others, from `to` on. The cursors are settled again from the returned step on, or from a step before it.
+    pub page_row : n < room → length ys ≡ 32 → a.steps ≤ 32 → (v : List ℕ) → Row (at ys a.returned) v → length v ≡ width → (n + 1) * width ≤ length out
+        → (to k here first' : ℕ) → to ≡ n * width → k ≡ width → here ≡ at ys a.returned + 1 → first' ≤ a.returned
+        → Writing a Row place room width entry (put_mid to k out v) (set ys a.returned here) (n + 1) first'
+    page_row l yl k32 v is_row vl within to k here first' to_is k_is here_is fl =
         let i : ℕ = at ys a.returned in
         let rl : a.returned < length ys = omega (arith, fit.returned_lt) in
-        record {
+        let next : (n + 1) * width ≡ n * width + width = row_on n width in
+        let head : take ((n + 1) * width) (put_mid to k out v) ≡ take (n * width) out ++ v = take-put_mid to k out v ((n + 1) * width) (omega (arith, next)) (omega (arith, next)) ∙ ap (λ (t : ℕ). take t out ++ v) to_is in
+        let tail : drop ((n + 1) * width) (put_mid to k out v) ≡ drop ((n + 1) * width) out = drop-put_mid to k out v ((n + 1) * width) (omega (arith, next)) (omega (arith, next)) (omega arith) in
+        rw here_is (record {
           len = simp length-set yl;
-          same = same ∙ w.same;
+          same = length-put_mid to k out v (omega (arith, next)) (omega arith) ∙ w.same;
           n_le = omega arith;
-          to_is = omega (arith, w.to_is, suc-mul n width, ap (λ (k : ℕ). k * width) (add-one n));
           floor = floor_next a fit xs w.floor ys least rl;
           first_le = omega (arith, fit.returned_lt);
           held = unbroken_before a.returned first' fl (held_next a fit xs w.floor ys least (i + 1));
           is = w.is ++ (i ∷ []);
           long = length-append w.is (i ∷ []) ∙ omega (arith, w.long);
           rows = subst (λ (u : List ℕ). Rows Row (w.is ++ (i ∷ [])) u) (sym head) (rows_more i v w.rows is_row);
-          kept = tail ∙ sym (drop-drop width to out) ∙ ap (λ (t : List ℕ). drop width t) w.kept ∙ drop-drop width to entry;
+          kept = tail ∙ ap (λ (t : ℕ). drop t out) next ∙ sym (drop-drop width (n * width) out) ∙ ap (λ (t : List ℕ). drop width t) w.kept ∙ drop-drop width (n * width) entry
+              ∙ ap (λ (t : ℕ). drop t entry) (sym next);
           rest = λ js rec.
-              let here : at (set ys a.returned (i + 1)) a.returned ≡ i + 1 = get_or-set_same ys a.returned (i + 1) 0 rl in
-              rw append_assoc (w.rest (i ∷ js) (records_next a (at xs a.returned) i js (next_of a fit xs w.floor ys least) (rw here at rec)));
-        }
-
--- The invariant is about the loop's own numbers.
-pub writing_with : {a : Asked} {Row : ℕ → List ℕ → Type 0} {place room width : ℕ} {entry out : List ℕ} (ys : List ℕ) (s here here' n n' to to' : ℕ) {first : ℕ}
-    → here' ≡ here → n' ≡ n → to' ≡ to → Writing a Row place room width entry out (set ys s here) n to first → Writing a Row place room width entry out (set ys s here') n' to' first
-writing_with ys s here here' n n' to to' e₁ e₂ e₃ w = rw (e₁, e₂, e₃) w
+              let on : at (set ys a.returned (i + 1)) a.returned ≡ i + 1 = get_or-set_same ys a.returned (i + 1) 0 rl in
+              rw append_assoc (w.rest (i ∷ js) (records_next a (at xs a.returned) i js (next_of a fit xs w.floor ys least) (rw on at rec)));
+        })
 
 -- The loop begins with the cursors at the beginning of each list, but that of the returned step, which is at the page's place.
-pub page_begin : (a : Asked) → Fit a → (Row : ℕ → List ℕ → Type 0) (place room width : ℕ) (entry xs : List ℕ) → a.returned < 32 → xs ≡ set (replicate 32 0) a.returned place
-    → Writing a Row place room width entry entry xs 0 0 0
-page_begin a fit Row place room width entry xs r e =
+pub page_begin : {a : Asked} → Fit a → (Row : ℕ → List ℕ → Type 0) (place room width : ℕ) (entry xs : List ℕ) → a.returned < 32 → xs ≡ set (replicate 32 0) a.returned place
+    → Writing a Row place room width entry entry xs 0 0
+page_begin {a} fit Row place room width entry xs r e =
     let here : at xs a.returned ≡ place = rw e (get_or-set_same (replicate 32 0) a.returned place 0 r) in
+    let none : 0 * width ≡ 0 = omega arith in
     record {
       len = rw e (simp length-set);
       same = refl;
       n_le = omega arith;
-      to_is = omega arith;
       floor = λ q pick l. rw e (set_cases (λ j x. j < a.steps → x ≤ q j) (replicate 32 0) a.returned place r (λ _. omega (arith, l, here)) (λ j _ k. omega (arith, zero_at 32 j)));
       first_le = omega arith;
       held = record { ranged = λ j l. absurd (omega arith); touches = λ j l. absurd (omega arith) };
       is = [];
       long = refl;
-      rows = none;
+      rows = rw none none_written;
       kept = refl;
       rest = λ js rec. rw here at rec;
     }
+  where
+    none_written : Rows Row [] (take 0 entry)
+    none_written = none
 
 -- What settling said, by its answer.
 pub settled_found : {a : Asked} {low : ℕ → ℕ} {f : Bool} {xs : List ℕ} → Settled a low f xs → f ≡ true → LeastPick a low (at xs)
@@ -212,11 +228,8 @@ settled_none (found h) e = absurd (true≢false e)
 settled_none (ended h) e = h
 
 -- So many rows fit, and one more where the page is not full.
-pub rows_fit : (n width len to : ℕ) → to ≡ n * width → n ≤ len / width → to ≤ len
-rows_fit n width len to e l = omega (arith, mul-le-mul_right width l, div-mul-le_self len width)
-
-pub row_fits : (n width len to : ℕ) → to ≡ n * width → n < len / width → to + width ≤ len
-row_fits n width len to e l = omega (arith, suc-mul n width, mul-le-mul_right width l, div-mul-le_self len width)
+pub rows_fit : (n width len : ℕ) → n ≤ len / width → n * width ≤ len
+rows_fit n width len l = omega (arith, mul-le-mul_right width l, div-mul-le_self len width)
 
 -- The part of a row that begins at a step, as it stands among the cursors.
 pub part_of : (ys : List ℕ) (k step width : ℕ) → step + width ≤ k → take width (drop step ys) ≡ take width (drop step (take k ys))
@@ -224,3 +237,20 @@ part_of ys k zero width l = sym (take-take width k ys (omega arith))
 part_of [] k (suc step) width l = ap (λ (t : List ℕ). take width (drop (suc step) t)) (sym (take-nil k))
 part_of (y ∷ ys) zero (suc step) width l = absurd (omega arith)
 part_of (y ∷ ys) (suc k) (suc step) width l = part_of ys k step width (omega arith)
+
+-- A page is one of the rows that a kind says, and of the page that is handed back.
+pub page_as : {a : Asked} {place : ℕ} {entry exit : List ℕ} {r s : Page} {f g w v : ℕ} → g ≡ f → v ≡ w → s ≡ r → Paged a (PartOf a f w) place (length entry / w) entry exit r
+    → Paged a (PartOf a g v) place (length entry / v) entry exit s
+page_as first width same x = rw (first, width, same) x
+
+-- Every cursor of a pick is in range, and so is small.
+pub small : {b : List ℕ} {p : Plan} → Planned b p → {low : ℕ → ℕ} (ys : List ℕ) → LeastPick (plan_of b p) low (at ys) → (s : ℕ) → s < p.count → at ys s < most_labels
+unfolding plan_of
+small planned ys least s l = omega (arith, least.pick.within s l, planned.small s l)
+
+-- So is each position of a row.
+pub part_small : {b : List ℕ} {p : Plan} → Planned b p → {low : ℕ → ℕ} (ys : List ℕ) → LeastPick (plan_of b p) low (at ys) → (start width : ℕ) → start + width ≤ p.count
+    → (i : ℕ) → i < length (take width (drop start ys)) → at (take width (drop start ys)) i < most_labels
+part_small planned ys least start width l i h =
+    let k : i < width = omega (arith, length-take width (drop start ys)) in
+    rw (get_or-take width (drop start ys) i 0 k, get_or-drop start ys i 0) (small planned ys least (start + i) (omega arith))

@@ -1,2 +1,3 @@
--- What a page promises of its rows.
+-- What a page promises of its rows, and what the rows of each call are.
 pub mod RowParts
+pub mod RowKinds

@@ -1,87 +1,90 @@
 // One page of rows: the cursors are settled once for each row, and the row is a part of them.
 #![tactic(auto)]
 
-ghost use Rattle.std.specs.Prelude.{◌≡◌, ℕ, ◌+◌, ◌/◌, ◌<◌, ◌≤◌, length, set, drop, replicate};
-ghost use Rattle.std.proofs.Math.Seq.{paste};
+mod rows;
+
+ghost use Rattle.std.specs.Prelude.{◌≡◌, ℕ, ◌/◌, ◌<◌, ◌≤◌, false, length, set, replicate};
 ghost use Rattle.meaning.specs.Limits.{most_labels, most_steps};
 ghost use Rattle.meaning.specs.Bytes.{at};
 ghost use Rattle.meaning.specs.Pages.{Paged};
-ghost use Rattle.cursors.specs.Plan.{plan_of, Planned};
+ghost use Rattle.cursors.specs.Plan.{plan_of, planned_step, Planned};
 ghost use Rattle.pages.specs.RowParts.{PartOf};
 
-use cursors::settle;
+use cursors::{Engine, Plan};
 use meaning::{Page, Step};
+pub use rows::{Returned, Row, Whole};
 
 // Cursors at the beginning of each list, but that of the returned step, which is at the page's place.
-fn start_from(ret: usize, place: usize) -> [usize; Step::MOST]
-    requires { ret < most_steps }
-    ensures { result ≡ set (replicate most_steps 0) ret place }
+fn start_from(returned: usize, place: usize) -> [usize; Step::MOST]
+    requires { returned < most_steps }
+    ensures { result ≡ set (replicate most_steps 0) returned place }
 {
     let mut pos = [0; Step::MOST];
-    pos[ret] = place;
+    pos[returned] = place;
     pos
 }
 
-// Writes `width` of the positions, from that of `step` on, to the buffer at `to`.
-fn put_row(out: &mut [u32], to: usize, pos: &[usize; Step::MOST], step: usize, width: usize)
-    requires { (step + width ≤ most_steps) × (to + width ≤ length out.old) × (length pos.now ≡ most_steps) × ((s : ℕ) → s < step + width → at pos.now s < most_labels) }
-    ensures { out.new ≡ paste out.old to (drop step pos.now) width }
+// Writes a part of the positions, all of it.
+fn put_row(row: &mut [u32], part: &[usize])
+    requires long { length part.now ≡ length row.old }
+    requires small { (i : ℕ) → i < length part.now → at part.now i < most_labels }
+    ensures { row.new ≡ part.now }
 {
-    let mut j = 0;
-    while j < width {
-        let p = pos[step + j];
-        out[to + j] = p as u32;
-        j += 1;
+    for (i, position) in row.iter_mut().enumerate() {
+        *position = part[i] as u32;
     }
 }
 
-// A page from `place` on: for each record the positions of `width` steps, from `step` on. It tells the unknown step that it is given.
-#[tactic(auto, using(cursors::proofs::SettleTurns::ret_of))]
-pub fn write_page(
-    index: &[u8],
-    k: usize,
-    ret: usize,
-    hangs: &[usize; Step::MOST],
-    offsets: &[usize; Step::MOST],
-    counts: &[usize; Step::MOST],
+// What a page tells where no record is left behind its rows.
+fn last_page(plan: &Plan, rows: usize, unknown: Option<u8>) -> Page
+    requires one { plan.now.returned < plan.now.count }
+    requires few { plan.now.count ≤ most_steps }
+    requires small { (s : ℕ) → s < plan.now.count → (planned_step plan.now s).list.count ≤ most_labels }
+    ensures { result ≡ record { rows = rows; more = false; next = (planned_step plan.now plan.now.returned).list.count; unknown = unknown } }
+{
+    Page {
+        rows,
+        more: false,
+        next: plan.steps[plan.returned].list.count as u32,
+        unknown,
+    }
+}
+
+// A page from `place` on: a row of this kind for each record. It tells the unknown step that it is given.
+#[tactic(auto, using(cursors::proofs::SettleTurns::ret_of, cursors::proofs::SettleTurns::ret_few))]
+pub fn write_page<R: Row>(
+    engine: &Engine,
     place: usize,
-    step: usize,
-    width: usize,
-    unknown: u32,
+    unknown: Option<u8>,
     out: &mut [u32],
 ) -> Page
-    requires { Planned index.now k ret hangs.now offsets.now counts.now × (step + width ≤ k) × (1 ≤ width) }
-    ensures { Paged (plan_of index.now k ret hangs.now offsets.now counts.now) (PartOf (plan_of index.now k ret hangs.now offsets.now counts.now) step width) place (length out.old / width) out.old out.new result × (result.unknown ≡ unknown) }
+    requires { Planned engine.now.index.now engine.now.plan.now }
+    ensures paged { let plan = engine.now.plan.now in let a = plan_of engine.now.index.now plan in let width = R.width plan.count plan.returned in Paged a (PartOf a (R.first plan.count plan.returned) width) place (length out.old / width) out.old out.new result }
+    ensures told { result.unknown ≡ unknown }
 {
+    let plan = engine.plan;
+    let returned = plan.returned;
+    let steps = R::steps(plan);
+    let width = steps.end - steps.start;
     let room = out.len() / width;
-    let mut pos = start_from(ret, place);
+    let mut pos = start_from(returned, place);
     let mut first = 0;
-    let mut rows = 0;
-    let mut to = 0;
-    loop {
-        if !settle(index, k, ret, hangs, offsets, counts, &mut pos, first) {
-            return Page {
-                refusal: 0,
-                rows,
-                more: false,
-                next: counts[ret] as u32,
-                unknown,
-            };
+    for rows in 0..room {
+        if !engine.settle(&mut pos, first) {
+            return last_page(plan, rows, unknown);
         }
-        let here = pos[ret];
-        if rows == room {
-            return Page {
-                refusal: 0,
-                rows,
-                more: true,
-                next: here as u32,
-                unknown,
-            };
-        }
-        put_row(out, to, &pos, step, width);
-        to += width;
-        rows += 1;
-        pos[ret] = here + 1;
-        first = ret;
+        let to = rows * width;
+        put_row(&mut out[to..to + width], &pos[steps.start..steps.end]);
+        pos[returned] += 1;
+        first = returned;
+    }
+    if !engine.settle(&mut pos, first) {
+        return last_page(plan, room, unknown);
+    }
+    Page {
+        rows: room,
+        more: true,
+        next: pos[returned] as u32,
+        unknown,
     }
 }

@@ -1,100 +1,71 @@
 -- `write_page` meets its contract: each way round its loop, and each way out, is a lemma of Paging.
-use Rattle.std.proofs.Common.{◌≡◌, ℕ, ◌+◌, ◌/◌, ◌<◌, ◌≤◌, List, length, take, drop, refl, ap, ◌∙◌, arith, length-drop}
-use Rattle.std.proofs.lemmas.List.Edits.{length-paste, take-paste, drop-paste}
-use Rattle.meaning.specs.Limits.{most_labels}
-use Rattle.meaning.specs.Bytes.{at}
-use Rattle.meaning.specs.Picks.{Evidence}
-use Rattle.cursors.specs.Plan.{plan_of, Planned}
-use Rattle.cursors.specs.Cursors.{LeastPick}
-use Rattle.cursors.proofs.SettleTurns.{ret_of, steps_of}
-use Rattle.pages.proofs.Paging.{page_begin, page_done, page_full, page_row, writing_with, evidence_of, part_of, settled_found, settled_none, rows_fit, row_fits}
+use Rattle.std.proofs.Common.{◌≡◌, ℕ, ◌+◌, ◌≤◌, List, length, take, drop, refl, sym, ap, ◌∙◌, arith, ◌-◌, length-drop}
+use Rattle.std.proofs.lemmas.List.{length-take-le}
+use Rattle.cursors.specs.Plan.{plan_of}
+use Rattle.cursors.proofs.SettleTurns.{ret_of, ret_few, steps_of}
+use Rattle.pages.proofs.Paging.{page_begin, page_done, page_full, page_row, page_as, evidence_of, part_of, settled_found, settled_none, rows_fit, small, part_small}
 use Rattle.pages.proofs.write_page.Goals as goal
 
--- Every cursor of a pick is in range, and so is small.
-small : (b : List ℕ) (k ret : ℕ) (hangs offsets counts : List ℕ) → Planned b k ret hangs offsets counts → (low : ℕ → ℕ) (ys : List ℕ) → LeastPick (plan_of b k ret hangs offsets counts) low (at ys) → (s : ℕ) → s < k
-    → (at ys s < at counts s) × (at ys s < most_labels)
+pub loop-rows-init : goal.loop-rows-init
 unfolding plan_of
-small b k ret hangs offsets counts plan low ys least s sk = (least.pick.within s sk, omega (arith, least.pick.within s sk, plan.small s sk))
+loop-rows-init g c = page_begin c.requires.fit _ _ _ _ _ _ (ret_few c.requires) c.start_from-pos.ensures
 
-pub loop-pos-init : goal.loop-pos-init
+pub settle-requires-clause-begins : goal.settle-requires-clause-begins
+settle-requires-clause-begins g c = steps_of _ _ c.loop-rows.invariant.first_le
+
+pub settle-requires-clause-unbroken : goal.settle-requires-clause-unbroken
+settle-requires-clause-unbroken g c = c.loop-rows.invariant.held
+
+pub settle-requires-2-clause-begins : goal.settle-requires-2-clause-begins
+settle-requires-2-clause-begins g c = steps_of _ _ c.loop-rows.invariant.first_le
+
+pub settle-requires-2-clause-unbroken : goal.settle-requires-2-clause-unbroken
+settle-requires-2-clause-unbroken g c = c.loop-rows.invariant.held
+
+pub returns-then-not-settle-clause-paged : goal.returns-then-not-settle-clause-paged
 unfolding plan_of
-loop-pos-init c =
-    let a = c.args in (
-      refl,
-      page_begin (plan_of a.index.now a.k a.ret a.hangs.now a.offsets.now a.counts.now) c.requires.0.fit _ _ _ _ _ _ (omega (arith, c.requires.0.few, c.requires.0.fit.returned_lt)) c.start_from-pos.ensures,
-    )
+returns-then-not-settle-clause-paged g c =
+    let w = c.loop-rows.invariant in
+    page_as (sym c.steps-steps.ensures.from) (omega (arith, c.steps-steps.ensures.from, c.steps-steps.ensures.to)) c.last_page.ensures
+    (page_done c.requires.fit w (rows_fit _ _ _ w.n_le) (settled_none c.if-not-settle.ensures.settled refl) _ (omega arith) _)
 
-pub settle-requires : goal.settle-requires
-settle-requires c =
-    let w = c.loop-pos.invariant.1 in
-    (c.requires.0, steps_of _ _ _ _ _ _ w.first_le, w.len, w.held)
-
-pub overflow_cast-result : goal.overflow_cast-result
-overflow_cast-result c =
-    let a = c.args in
-    record { fits = omega (arith, c.requires.0.small a.ret (ret_of _ _ _ _ _ _ c.requires.0), c.requires.0.small a.step (omega arith)) }
-
-pub returns-then-not-settle : goal.returns-then-not-settle
+pub returns-then-not-settle-2-clause-paged : goal.returns-then-not-settle-2-clause-paged
 unfolding plan_of
-returns-then-not-settle c =
-    let a = c.args in
-    let l = c.loop-pos in
-    let fits : l.to ≤ length a.out.now = rows_fit l.rows a.width (length a.out.now) l.to l.invariant.1.to_is l.invariant.1.n_le in
-    (page_done (plan_of a.index.now a.k a.ret a.hangs.now a.offsets.now a.counts.now) c.requires.0.fit _ _ _ _ _ _ _ _ _ _ l.invariant.1 fits (settled_none c.if-not-settle.ensures.0 refl) _, refl)
+returns-then-not-settle-2-clause-paged g c =
+    let w = c.loop-rows.invariant in
+    page_as (sym c.steps-steps.ensures.from) (omega (arith, c.steps-steps.ensures.from, c.steps-steps.ensures.to)) c.last_page-then-not-settle-2.ensures
+    (page_done c.requires.fit w (rows_fit _ _ _ w.n_le) (settled_none c.if-not-settle-2.ensures.settled refl) _ (omega arith) _)
 
-pub overflow_cast-result-then-rows-room : goal.overflow_cast-result-then-rows-room
-overflow_cast-result-then-rows-room c =
-    let a = c.args in
-    let least = settled_found c.if-not-settle.ensures.0 refl in
-    record { fits = omega (arith, (small _ _ _ _ _ _ c.requires.0 _ _ least a.ret (ret_of _ _ _ _ _ _ c.requires.0)).1, ret_of _ _ _ _ _ _ c.requires.0) }
-
-pub returns-then-rows-room : goal.returns-then-rows-room
-unfolding plan_of
-returns-then-rows-room c =
-    let a = c.args in
-    let l = c.loop-pos in
-    let fits : l.to ≤ length a.out.now = rows_fit l.rows a.width (length a.out.now) l.to l.invariant.1.to_is l.invariant.1.n_le in
-    (page_full (plan_of a.index.now a.k a.ret a.hangs.now a.offsets.now a.counts.now) c.requires.0.fit _ _ _ _ _ _ _ _ _ _ l.invariant.1 fits c.settle.new.pos (settled_found c.if-not-settle.ensures.0 refl) (omega arith) _, refl)
-
-pub put_row-requires : goal.put_row-requires
-put_row-requires c =
-    let a = c.args in
-    let l = c.loop-pos in
-    let more : l.rows < length a.out.now / a.width = omega (arith, l.invariant.1.n_le) in
-    let room : l.to + a.width ≤ length a.out.now = row_fits l.rows a.width (length a.out.now) l.to l.invariant.1.to_is more in
-    let least = settled_found c.if-not-settle.ensures.0 refl in
-    (omega (arith, c.requires.0.few), omega (arith, room, l.invariant.1.same), c.settle.ensures.1, λ s h. (small _ _ _ _ _ _ c.requires.0 _ _ least s (omega arith)).1)
+pub put_row-requires-clause-small : goal.put_row-requires-clause-small
+put_row-requires-clause-small g c =
+    part_small c.requires c.settle.new.pos (settled_found c.if-not-settle.ensures.settled refl) _ _
+    (omega (arith, c.steps-steps.ensures.from, c.steps-steps.ensures.to, g.met.R.Row.laws.within _ _ (ret_of c.requires)))
 
 pub overflow_add-pos : goal.overflow_add-pos
-overflow_add-pos c =
-    let a = c.args in
-    let least = settled_found c.if-not-settle.ensures.0 refl in
-    record { fits = omega (arith, (small _ _ _ _ _ _ c.requires.0 _ _ least a.ret (ret_of _ _ _ _ _ _ c.requires.0)).1) }
+overflow_add-pos g c = record { fits = omega (arith, small c.requires c.settle.new.pos (settled_found c.if-not-settle.ensures.settled refl) _ (ret_of c.requires)) }
 
-pub loop-pos-preserved : goal.loop-pos-preserved
+pub overflow_cast-result : goal.overflow_cast-result
+overflow_cast-result g c = record { fits = omega (arith, ret_few c.requires, small c.requires c.settle-2.new.pos (settled_found c.if-not-settle-2.ensures.settled refl) _ (ret_of c.requires)) }
+
+pub loop-rows-preserved : goal.loop-rows-preserved
 unfolding plan_of
-loop-pos-preserved c =
-    let a = c.args in
-    let plan = c.requires.0 in
-    let l = c.loop-pos in
-    let w = l.invariant.1 in
+loop-rows-preserved g c =
+    let l = c.loop-rows in
+    let w = l.invariant in
+    let plan = c.args.engine.now.plan.now in
     let pos : List ℕ = c.settle.new.pos in
-    let len : length pos ≡ 32 = c.settle.ensures.1 in
-    let least = settled_found c.if-not-settle.ensures.0 refl in
-    let more : l.rows < length a.out.now / a.width = omega (arith, w.n_le) in
-    let fits : l.to ≤ length a.out.now = rows_fit l.rows a.width (length a.out.now) l.to w.to_is w.n_le in
-    let room : l.to + a.width ≤ length l.out = omega (arith, w.same, row_fits l.rows a.width (length a.out.now) l.to w.to_is more) in
-    let put = c.put_row.ensures in
-    let part : List ℕ = drop a.step pos in
-    let long : a.width ≤ length part = omega (arith, length-drop a.step pos, len, plan.few) in
-    let within : l.to ≤ length l.out = omega (arith, room) in
-    let row : Evidence (plan_of a.index.now a.k a.ret a.hangs.now a.offsets.now a.counts.now) (at pos a.ret) (take a.k pos) = evidence_of (plan_of a.index.now a.k a.ret a.hangs.now a.offsets.now a.counts.now) plan.fit l.pos w.floor pos least (omega (arith, len, plan.few)) in (
-      refl,
-      writing_with pos a.ret (at pos a.ret + 1) _ (l.rows + 1) _ (l.to + a.width) _ (omega arith) (omega arith) (omega arith)
-          (page_row (plan_of a.index.now a.k a.ret a.hangs.now a.offsets.now a.counts.now) plan.fit _ _ _ _ _ _ _ _ _ _ w fits pos least more len plan.few _ (take a.width part)
-          (take a.k pos, row, part_of pos a.k a.step a.width c.requires.1)
-          (ap length put ∙ length-paste l.out l.to part a.width room long)
-          (ap (λ (o : List ℕ). take (l.to + a.width) o) put ∙ take-paste l.out l.to part a.width within long)
-          (ap (λ (o : List ℕ). drop (l.to + a.width) o) put ∙ drop-paste l.out l.to part a.width within long)
-          _ (omega arith)),
-    )
+    let start : ℕ = c.steps-steps.result.start in
+    let width : ℕ = c.steps-steps.result.end - start in
+    let least = settled_found c.if-not-settle.ensures.settled refl in
+    let within : start + width ≤ plan.count = omega (arith, c.steps-steps.ensures.from, c.steps-steps.ensures.to, g.met.R.Row.laws.within _ _ (ret_of c.requires)) in
+    let long : length c.put_row.new.row ≡ width = ap length c.put_row.ensures ∙ length-take-le width (drop start pos) (omega (arith, length-drop start pos, c.settle.ensures.long, c.requires.few)) in
+    page_row c.requires.fit w (rows_fit _ _ _ w.n_le) pos least (omega arith) c.settle.ensures.long c.requires.few c.put_row.new.row
+    (take plan.count pos, evidence_of _ c.requires.fit l.pos w.floor pos least (omega (arith, c.settle.ensures.long, c.requires.few)), c.put_row.ensures ∙ part_of pos plan.count start width within)
+    long (omega (arith, w.same, rows_fit (l.rows + 1) width (length c.args.out.now) (omega arith))) _ _ _ _ (omega arith) (omega arith) (omega arith) (omega arith)
+
+pub returns-clause-paged : goal.returns-clause-paged
+unfolding plan_of
+returns-clause-paged g c =
+    let w = c.loop-rows.invariant in
+    page_as (sym c.steps-steps.ensures.from) (omega (arith, c.steps-steps.ensures.from, c.steps-steps.ensures.to)) refl
+    (page_full c.requires.fit w (rows_fit _ _ _ w.n_le) c.settle-2.new.pos (settled_found c.if-not-settle-2.ensures.settled refl) _ (omega arith) (omega arith) _)

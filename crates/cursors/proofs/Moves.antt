@@ -7,7 +7,7 @@ use borrow.Author.Count.{below_more}
 use mathlib.Core.Path.{◌≡◌, refl, sym, ap, subst}
 use mathlib.Core.Logic.{◌⊎◌, inl, inr, ◌≢◌}
 use mathlib.Core.List.{List}
-use lib.ListN.{length, set}
+use lib.ListN.{length, set, get_or}
 use lib.Seq.{get_or-set_same, get_or-set_other}
 use Rattle.meaning.specs.Notation.{Hook, nothing, from}
 use Rattle.meaning.specs.Bytes.{at}
@@ -41,12 +41,12 @@ pub unbroken_before : {a : Asked} {p : ℕ → ℕ} (s t : ℕ) → t ≤ s → 
 unbroken_before s t l h = record { ranged = λ j k. h.ranged j (omega arith); touches = λ j k. h.touches j (omega arith) }
 
 -- A fact of each element after a store: at the stored place, and at each other.
-pub set_cases : (P : ℕ → ℕ → Type 0) (xs : List ℕ) (s r : ℕ) → s < length xs → P s r → ((j : ℕ) → j ≢ s → P j (at xs j)) → (j : ℕ) → P j (at (set xs s r) j)
-set_cases P xs s r l here other j = go (ℕ_discrete j s)
+pub set_cases : {A : Type 0} (d : A) (P : ℕ → A → Type 0) (xs : List A) (s : ℕ) (r : A) → s < length xs → P s r → ((j : ℕ) → j ≢ s → P j (get_or xs j d)) → (j : ℕ) → P j (get_or (set xs s r) j d)
+set_cases d P xs s r l here other j = go (ℕ_discrete j s)
   where
-    go : Dec (j ≡ s) → P j (at (set xs s r) j)
-    go (yes e) = rw (e, get_or-set_same xs s r 0 l) here
-    go (no n) = rw (get_or-set_other xs s j r 0 n) (other j n)
+    go : Dec (j ≡ s) → P j (get_or (set xs s r) j d)
+    go (yes e) = rw (e, get_or-set_same xs s r d l) here
+    go (no n) = rw (get_or-set_other xs s j r d n) (other j n)
 
 module _ (a : Asked) (fit : Fit a) (low : ℕ → ℕ) where
   -- No pick has step s before r, where the records before r start at or before the present record of u, from which s hangs.
@@ -107,10 +107,10 @@ module _ (a : Asked) (fit : Fit a) (low : ℕ → ℕ) where
   raise xs s c v w sk cs cl up least = keep_below xs s v c w sk cs bound later
     where
       bound : Bound a low (at (set xs c v))
-      bound q pick f = set_cases (λ j x. j < a.steps → x ≤ q j) xs c v cl (λ _. least q pick f) (λ j _ k. w.bound q pick f j k)
+      bound q pick f = set_cases 0 (λ j x. j < a.steps → x ≤ q j) xs c v cl (λ _. least q pick f) (λ j _ k. w.bound q pick f j k)
 
       later : AtMost a low (at (set xs c v))
-      later = set_cases (λ j x. j < a.steps → low j ≤ x) xs c v cl (λ k. omega (arith, w.later c k)) (λ j _ k. w.later j k)
+      later = set_cases 0 (λ j x. j < a.steps → low j ≤ x) xs c v cl (λ k. omega (arith, w.later c k)) (λ j _ k. w.later j k)
 
   -- The cursor of s jumps to the first record that starts after the record of u.
   pub jump : (xs : List ℕ) (s u r : ℕ) → Settling a low xs s → s < a.steps → a.hook s ≡ from u → s < length xs → at xs s < r

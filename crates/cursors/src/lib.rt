@@ -15,8 +15,19 @@ pub struct PlanStep {
     pub list: Body,
 }
 
-// What the engine needs of a question: its steps in text order, how many there are, and which one is returned. Entries past the last step hang
-// from nothing, and their lists are empty.
+impl PlanStep {
+    // An entry past the last step: it hangs from nothing, and its list is empty.
+    pub const BLANK: PlanStep = PlanStep {
+        hangs: None,
+        list: Body {
+            offset: 0,
+            count: 0,
+        },
+    };
+}
+
+// What the engine needs of a question: its steps in text order, how many there are, and which one is returned. Entries past the last step are
+// blank.
 #[derive(Clone, Copy)]
 pub struct Plan {
     pub steps: [PlanStep; Step::MOST],

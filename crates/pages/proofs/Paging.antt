@@ -85,7 +85,7 @@ module _ (a : Asked) (fit : Fit a) (xs : List ℕ) (f : Floor a xs) where
     floor_next rl q pick l =
         let up : at ys a.returned + 1 ≤ q a.returned = rw (get_or-set_same ys a.returned (at ys a.returned + 1) 0 rl) at l in
         let over = f q pick (omega (arith, least.later a.returned fit.returned_lt)) in
-        set_cases (λ j x. j < a.steps → x ≤ q j) ys a.returned (at ys a.returned + 1) rl (λ _. up) (λ j _ k. least.least q pick over j k)
+        set_cases 0 (λ j x. j < a.steps → x ≤ q j) ys a.returned (at ys a.returned + 1) rl (λ _. up) (λ j _ k. least.least q pick over j k)
 
     -- Below the returned step the least pick's edges stay as they are when the returned cursor is raised.
     pub held_next : (v : ℕ) → Unbroken a (at (set ys a.returned v)) a.returned
@@ -205,7 +205,7 @@ page_begin {a} fit Row place room width entry xs r e =
       len = rw e (simp length-set);
       same = refl;
       n_le = omega arith;
-      floor = λ q pick l. rw e (set_cases (λ j x. j < a.steps → x ≤ q j) (replicate 32 0) a.returned place r (λ _. omega (arith, l, here)) (λ j _ k. omega (arith, zero_at 32 j)));
+      floor = λ q pick l. rw e (set_cases 0 (λ j x. j < a.steps → x ≤ q j) (replicate 32 0) a.returned place r (λ _. omega (arith, l, here)) (λ j _ k. omega (arith, zero_at 32 j)));
       first_le = omega arith;
       held = record { ranged = λ j l. absurd (omega arith); touches = λ j l. absurd (omega arith) };
       is = [];

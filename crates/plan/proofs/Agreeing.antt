@@ -74,7 +74,6 @@ module _ (a b : Asked) (fit_a : Fit a) (fit_b : Fit b) (g : Agree a b) where
     written = p.written;
     rows_written = rows_as f p.rows_written;
     buffer = p.buffer;
-    refusal = p.refusal;
     rows = p.rows ∙ ap (λ (n : ℕ). min n (length p.all)) e;
     more = p.more;
     next = p.next ∙ ap (λ (d : ℕ). get_or p.all r.rows d) (g.count a.returned fit_a.returned_lt ∙ ap b.count g.returned);

@@ -53,10 +53,10 @@ planned_of {b} law d = drawn_planned b d.writes.tree _ law d.few d.drawn
 
 -- The engine's page is what the call promises.
 pub give : {first width : ℕ → ℕ → ℕ} {Row : Asked → ℕ → List ℕ → Type 0} {room : Asked → ℕ → ℕ} → RowKind first width Row room
-    → {b text : List ℕ} {q : Question} {d : Plan} {unknown : Option ℕ} {place : ℕ} {entry exit : List ℕ} {r : Page}
-    → Lawful b → ReadAs text (Ok q) → Draws b text d unknown
+    → {b text : List ℕ} {d : Plan} {unknown : Option ℕ} {place : ℕ} {entry exit : List ℕ} {r : Page}
+    → Lawful b → Clear (question_table text) → Draws b text d unknown
     → Paged (plan_of b d) (PartOf (plan_of b d) (first d.count d.returned) (width d.count d.returned)) place (length entry / width d.count d.returned) entry exit r → r.unknown ≡ unknown
     → Responds Row room b text place entry exit (Ok r)
-give kind {b} {text} {q} {d} {unknown} {place} {entry} {exit} {r} law asked drawn paged told =
-    page (clear_both (check_table b) (question_table text) law (clear_of asked)) drawn.writes (plan_page kind b drawn.writes.tree d law drawn.few drawn.drawn place entry exit r paged)
+give kind {b} {text} {d} {unknown} {place} {entry} {exit} {r} law clear drawn paged told =
+    page (clear_both (check_table b) (question_table text) law clear) drawn.writes (plan_page kind b drawn.writes.tree d law drawn.few drawn.drawn place entry exit r paged)
     (subst (FirstUnknown b drawn.writes.tree) (sym told) drawn.told)

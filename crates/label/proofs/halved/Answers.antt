@@ -1,17 +1,18 @@
--- `label::halved` meets its contract.
-use Rattle.std.proofs.Common.{arith}
-use Rattle.std.proofs.Math.Nat.{lt_of_not-le}
-use Rattle.meaning.proofs.Decide.{if_true, if_false}
-use Rattle.label.proofs.Searching.{settle_up, settle_down}
+-- `label::halved` meets its contract: the labels that are left are searched as chunks of 8 bytes.
+use Rattle.std.proofs.Common.{rules, tests, arith, ℕ, List}
+use Rattle.std.proofs.Math.Dec.{leb}
+use Rattle.std.proofs.lemmas.List.Sorted.{IsPartitionPoint-from_clause}
+use Rattle.meaning.specs.Bytes.{u32_at}
+use Rattle.label.proofs.Halving.{chunks_parted, chunks_settle}
 use Rattle.label.proofs.halved.Goals as goal
-use Rattle.label.proofs.halved.Goals.{then-starts_by, else-starts_by}
 
-pub loop-left-preserved : goal.loop-left-preserved
-loop-left-preserved c =
-    let asc = c.requires.1 in
-    let w = c.loop-left.invariant in
-    let looked = c.starts_by.ensures in
-    elim c.if-starts_by.branch [
-      | then-starts_by u ↦ rw u.base-is (settle_up _ _ _ _ asc w _ _ _ (omega arith) (omega arith) (omega arith) (omega arith) (omega arith) (if_true looked u.if-starts_by.true))
-      | else-starts_by d ↦ rw d.base-is (settle_down _ _ _ _ asc w _ _ _ (omega arith) (omega arith) (omega arith) (omega arith) (lt_of_not-le (if_false looked d.if-starts_by.false)))
-    ]
+pub returns : goal.returns
+returns c =
+    let a = c.args in
+    let r = c.requires in
+    let f = c.as_chunks.ensures in
+    let p = c.partition_point in
+    chunks_settle a.s.now a.at a.n a.v a.low a.high r.ascends r.between _ _ _ f.front f.front_len (omega arith) (omega arith) p.result p.ensures.bound
+    (IsPartitionPoint-from_clause (λ (y : List ℕ). leb (u32_at y 0) a.v) _ p.result p.ensures.partitioned
+    (chunks_parted a.s.now a.at a.n a.v a.low a.high r.ascends r.between _ _ _ f.front f.front_len (omega arith) (omega arith))
+    (λ x q g k. search (rules, tests)))

@@ -1,0 +1,70 @@
+-- The labels that are left between two numbers, as chunks of 8 bytes: they ascend by start, so that a search of the chunks for the first that
+-- starts after v finds how many labels of the body start at or before v.
+use Prim.Native.Nat.{ℕ, zero, suc, ◌+◌, ◌-◌, ◌*◌, ◌≤◌, ◌<◌}
+use native.Mathlib.Nat.{lt_of_not-le}
+use native.Mathlib.Decide.{dec_le}
+use native.Mathlib.Omega.{arith}
+use mathlib.Core.Path.{◌≡◌, refl, ap, ◌∙◌}
+use mathlib.Core.Bool.{true, false}
+use mathlib.Core.List.{List, []}
+use lib.Dec.{leb}
+use lib.ListN.{length, take, drop, get_or}
+use Rattle.std.specs.Simd.{first_chunks}
+use Rattle.std.specs.List.Sorted.{IsPartitionedBy, IsPartitionPoint}
+use Rattle.std.proofs.lemmas.Bool.{leb-true, leb-false}
+use Rattle.std.proofs.lemmas.List.{drop-drop}
+use Rattle.std.proofs.lemmas.List.Sorted.{IsPartitionedBy-leb}
+use Rattle.meaning.specs.Bytes.{u32_at}
+use Rattle.meaning.specs.Day.{label_at}
+use Rattle.meaning.specs.declared.Label.{Label}
+use Rattle.meaning.proofs.Laws.Bytes.{label_part}
+use Rattle.meaning.proofs.Laws.Label.{no_later}
+use Rattle.label.specs.Started.{Ascends, Between, Started}
+
+-- A chunk by its number.
+chunk_at : (count : ℕ) (s : List ℕ) (i : ℕ) (d : List ℕ) → i < count → get_or (first_chunks 8 count s) i d ≡ take 8 (drop (8 * i) s)
+chunk_at zero s i d l = absurd (omega arith)
+chunk_at (suc count) s zero d l = refl
+chunk_at (suc count) s (suc i) d l = chunk_at count (drop 8 s) i d (omega arith) ∙ ap (take 8) (drop-drop (8 * i) 8 s ∙ ap (λ (k : ℕ). drop k s) (omega arith))
+
+module _ (b : List ℕ) (at n v low high : ℕ) (ascends : Ascends b at n) (w : Between b at n v low high) where
+  module _ (chunks : List (List ℕ)) (count m : ℕ) (are : chunks ≡ first_chunks 8 count (take m (drop (at + 8 * low) b))) (many : length chunks ≡ count) (counted : count ≡ high - low) (long : m ≡ 8 * (high - low)) where
+    -- A chunk begins with the start of a label that is left.
+    begins : (i : ℕ) (d : List ℕ) → i < count → u32_at (get_or chunks i d) 0 ≡ (label_at b at (low + i)).start
+    begins i d l =
+        let part : List ℕ = take m (drop (at + 8 * low) b) in
+        ap (λ (c : List (List ℕ)). u32_at (get_or c i d) 0) are
+        ∙ ap (λ (c : List ℕ). u32_at c 0) (chunk_at count part i d l)
+        ∙ ap (λ (a : Label). a.start) (label_part part (8 * i) 8 0 (omega arith))
+        ∙ ap (u32_at part) (omega arith)
+        ∙ ap (λ (a : Label). a.start) (label_part b (at + 8 * low) m i (omega arith))
+        ∙ ap (u32_at b) (omega arith)
+
+    -- So the chunks that start at or before v come before the others.
+    pub chunks_parted : IsPartitionedBy (λ c. leb (u32_at c 0) v) chunks
+    chunks_parted =
+        IsPartitionedBy-leb (λ c. u32_at c 0) chunks v
+        (λ i j d ij jl. omega (arith, begins i d (omega arith), begins j d (omega arith), no_later (label_at b at) n ascends (low + i) (low + j) (omega arith) (omega (arith, w.within, w.ordered))))
+
+    -- Where r of them do, `low` and r labels of the body do.
+    pub chunks_settle : (r : ℕ) → r ≤ length chunks → IsPartitionPoint (λ c. leb (u32_at c 0) v ≡ true) (λ c. leb (u32_at c 0) v ≡ false) chunks r → Started b at n v (low + r)
+    chunks_settle r within (yes_before, no_behind) = record { within = omega (arith, w.within, w.ordered); first = first; rest = rest }
+      where
+        first : (i : ℕ) → i < low + r → (label_at b at i).start ≤ v
+        first i l = go (dec_le low i)
+          where
+            go : Dec (low ≤ i) → (label_at b at i).start ≤ v
+            go (no h) = w.first i (lt_of_not-le h)
+            go (yes h) =
+                let k : low + (i - low) ≡ i = omega arith in
+                omega (arith, leb-true _ _ (yes_before (i - low) [] (omega arith) (omega arith)), begins (i - low) [] (omega arith), ap (λ (j : ℕ). (label_at b at j).start) k)
+
+        rest : (i : ℕ) → low + r ≤ i → i < n → v < (label_at b at i).start
+        rest i l m = go (dec_le high i)
+          where
+            go : Dec (high ≤ i) → v < (label_at b at i).start
+            go (yes h) = w.rest i h m
+            go (no h) =
+                let k : low + (i - low) ≡ i = omega arith in
+                let f : i < high = lt_of_not-le h in
+                omega (arith, leb-false _ _ (no_behind (i - low) [] (omega arith) (omega arith)), begins (i - low) [] (omega arith), ap (λ (j : ℕ). (label_at b at j).start) k)

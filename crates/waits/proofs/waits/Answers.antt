@@ -1,41 +1,15 @@
 -- `waits` meets its contract: each part's promise is a part of the call's.
-use Rattle.std.proofs.Common.{arith}
-use Rattle.meaning.specs.Refusals.{times_table}
-use Rattle.meaning.proofs.Laws.Table.{checked_lawful, times_rising, zero_clear}
-use Rattle.waits.proofs.Waiting.{refuse_index, refuse_times, bodies_sound, give_table}
+use Rattle.std.proofs.lemmas.Result.{err_from_is_err_and}
+use Rattle.waits.proofs.Waiting.{refuse_index, tabled_by}
 use Rattle.waits.proofs.waits.Goals as goal
 
-pub returns-then-refused : goal.returns-then-refused
-returns-then-refused c = refuse_index _ _ c.check-wrong.ensures (λ zero. omega arith) c.none.ensures
-
-pub refusal-untimely-requires : goal.refusal-untimely-requires
-refusal-untimely-requires c = checked_lawful c.args.index.now _ (omega arith) c.check-wrong.ensures
-
-pub returns-then-untimed : goal.returns-then-untimed
-returns-then-untimed c =
-    refuse_times _ _ (checked_lawful c.args.index.now _ (omega arith) c.check-wrong.ensures) c.refusal-untimely.ensures (λ zero. omega arith) c.none-then-untimed.ensures
-
-pub lookup-requires : goal.lookup-requires
-lookup-requires c = checked_lawful c.args.index.now _ (omega arith) c.check-wrong.ensures
-
-pub lookup-requires-2 : goal.lookup-requires-2
-lookup-requires-2 c = checked_lawful c.args.index.now _ (omega arith) c.check-wrong.ensures
-
-pub lookup-requires-3 : goal.lookup-requires-3
-lookup-requires-3 c = checked_lawful c.args.index.now _ (omega arith) c.check-wrong.ensures
-
-pub tally-requires : goal.tally-requires
-tally-requires c =
-    let b = c.args.index.now in
-    let times = c.args.times.now in
-    let law = checked_lawful b _ (omega arith) c.check-wrong.ensures in
-    let timed = zero_clear (times_table b times) (times_rising b times) _ (omega arith) c.refusal-untimely.ensures in
-    bodies_sound b times law timed c.lookup.ensures c.lookup-2.ensures c.lookup-3.ensures
+pub returns-in_err-day : goal.returns-in_err-day
+returns-in_err-day c =
+    let p = err_from_is_err_and c.from_residual.result c.from_residual.ensures.1 in
+    rw (p.1, p.2) (refuse_index c.args.index.now c.args.times.now _ c.in_err-day.ensures.judged)
 
 pub returns : goal.returns
 returns c =
-    let b = c.args.index.now in
-    let times = c.args.times.now in
-    let law = checked_lawful b _ (omega arith) c.check-wrong.ensures in
-    let timed = zero_clear (times_table b times) (times_rising b times) _ (omega arith) c.refusal-untimely.ensures in
-    give_table b times law timed c.lookup.ensures c.lookup-2.ensures c.lookup-3.ensures c.tally.ensures
+    let judged = rw c.in_ok-day.ensures.same at c.table_of.ensures.judged in
+    let figured = rw c.in_ok-day.ensures.same at c.table_of.ensures.figured in
+    tabled_by c.args.index.now c.args.times.now c.in_ok-day.ensures.judged c.table_of.result judged figured

@@ -8,7 +8,8 @@ use Rattle.std.specs.Bool.{MatchBool}
 use Rattle.std.specs.List.{range_with_len, AllWithin, HoldsAt}
 use Rattle.std.proofs.lemmas.List.FromFn.{length-range_with_len, get_or-range_with_len}
 use mathlib.Core.Logic.{inl, inr, ⊎_elim}
-use mathlib.Core.Bool.{Bool, true, false}
+use mathlib.Core.Bool.{Bool, true, false, ◌||◌}
+use lib.Dec.{ltb}
 use mathlib.Core.List.{List}
 use lib.ListN.{length}
 use Rattle.meaning.specs.Bytes.{at}
@@ -18,7 +19,7 @@ use Rattle.std.specs.Prelude.{Ok, Err}
 use Rattle.meaning.specs.declared.refusal.Refusal.TheVariants as why
 use Rattle.meaning.specs.Refusals.{Lawful, Judged, times_table}
 use Rattle.meaning.specs.Answers.{Decides, holds, fails}
-use Rattle.meaning.proofs.Decide.{decides_as}
+use Rattle.meaning.proofs.Decide.{decides_as, lt_decides}
 use Rattle.meaning.proofs.Laws.Day.{lawful_index}
 use Rattle.times.specs.Entries.{EndsPast}
 
@@ -76,6 +77,15 @@ module _ (times : List ℕ) where
   descend_on i j k e h more (holds (m, l, n, g)) = holds (m, omega arith, n, g)
   descend_on i j k e h more (fails before) =
       fails (λ (m, l, n, g). ⊎_elim (λ q. let p : m ≡ j = omega arith in omega (arith, ap (at times) q, ap (at times) p)) (λ q. before (m, q, n, g)) (eq-or-lt_of_le {n = suc m} {m = i} (omega arith)))
+
+  -- One entry more, x, where y is the one before it.
+  pub descend_turn : (i j k x y : ℕ) {d : Bool} → j + 1 ≡ i → x ≡ at times i → y ≡ at times j → i < length times → k ≡ i + 1 → Decides (DescendTo times i) d → Decides (DescendTo times k) (d || ltb x y)
+  descend_turn i j k x y up here last l more before = go before (lt_decides x y)
+    where
+      go : {d b : Bool} → Decides (DescendTo times i) d → Decides (x < y) b → Decides (DescendTo times k) (d || b)
+      go (holds (m, f, n, g)) q = holds (m, omega arith, n, g)
+      go (fails none) (holds falls) = descend_here i j k up (omega arith) l more
+      go (fails none) (fails not) = descend_on i j k up (omega arith) more (fails none)
 
   -- Of all entries.
   pub descend_end : (i : ℕ) {d : Bool} → length times ≤ i → Decides (DescendTo times i) d → Decides (TimesDescend times) d

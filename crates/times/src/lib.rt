@@ -42,9 +42,7 @@ fn descend(times: &[u32]) -> bool
 {
     let mut smaller = false;
     for pair in times.windows(2) {
-        if pair[1] < pair[0] {
-            smaller = true;
-        }
+        smaller |= pair[1] < pair[0];
     }
     smaller
 }

@@ -12,7 +12,7 @@ use Rattle.meaning.specs.Day.{tags, lists_of}
 use Rattle.meaning.specs.Bytes.{at}
 use Rattle.tournament.specs.Tournament.{past}
 use Rattle.order.specs.declared.Met.{Met}
-use Rattle.order.specs.Walk.{start_of, end_of, next, Precedes, Comes, Foretells}
+use Rattle.order.specs.Walk.{start_of, next, Precedes, Comes, Foretells}
 use Rattle.order.specs.Standing.{cursor, Cursors, Names, Standing, Begun, HandsOut}
 use Rattle.order.proofs.WalkLaws.{comes_one, done_none, foretold_fixed}
 

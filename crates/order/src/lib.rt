@@ -11,7 +11,7 @@ ghost use Rattle.order.specs.Standing.{position_at, AtLabel};
 mod keys;
 mod walk;
 
-use contents::rows;
+use contents::Row;
 pub use walk::Walk;
 
 // A label that a walk comes to.
@@ -24,15 +24,15 @@ pub struct Met {
     pub end: u32,
 }
 
-// The key of list r when the label that begins at `place` is next in it; that of a list that is done is one past all keys.
-fn key_at(index: &[u8], r: usize, place: usize) -> u64
-    requires placed { Placed index.now }
-    requires list { r < tags index.now }
-    requires label { AtLabel index.now r place }
-    ensures { Key (lists_of index.now) r (position_at index.now r place) result }
+// The key of a row's list when the label that begins at `place` is next in it; that of a list that is done is one past all keys.
+fn key_at(row: Row<'_>, place: usize) -> u64
+    requires placed { Placed row.index.now }
+    requires list { row.number < tags row.index.now }
+    requires label { AtLabel row.index.now row.number place }
+    ensures { Key (lists_of row.entry.index.now) row.entry.number (position_at row.entry.index.now row.entry.number place) result }
 {
-    if place < rows::end_of(index, r) {
-        keys::key(label::start_at(index, place, 0), r)
+    if place < row.end() {
+        keys::key(label::start_at(row.index, place, 0), row.number)
     } else {
         tournament::PAST
     }

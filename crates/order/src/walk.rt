@@ -7,7 +7,7 @@ ghost use Rattle.order.specs.Standing.{cursor, Names, Standing, Begun, HandsOut}
 ghost use Rattle.order.specs.OneProof.{standing_prop};
 
 use crate::{Met, key_at, keys};
-use contents::rows;
+use contents::{Row, rows};
 use meaning::{Index, Label};
 use tournament::Tournament;
 
@@ -35,9 +35,10 @@ impl<'a> Walk<'a> {
         let mut places = [0; Index::MOST_TAGS];
         let mut keys = [0; Index::MOST_TAGS];
         for r in 0..lists {
-            let place = rows::offset_of(index, r);
+            let row = Row { index, number: r };
+            let place = row.offset();
             places[r] = place;
-            keys[r] = key_at(index, r, place);
+            keys[r] = key_at(row, place);
         }
         let keys = Tournament::new(&keys[..lists]);
         Walk {
@@ -57,9 +58,13 @@ impl<'a> Walk<'a> {
         }
         let list = keys::list_of(least);
         let place = self.places[list];
+        let row = Row {
+            index: self.index,
+            number: list,
+        };
         Some(Met {
             list,
-            at: (place - rows::offset_of(self.index, list)) / Label::BYTES,
+            at: (place - row.offset()) / Label::BYTES,
             start: keys::start_of(least),
             end: label::end_at(self.index, place, 0),
         })
@@ -81,7 +86,11 @@ impl<'a> Walk<'a> {
     {
         let place = self.places[list] + Label::BYTES;
         self.places[list] = place;
-        let least = self.keys.put(list, key_at(self.index, list, place));
+        let row = Row {
+            index: self.index,
+            number: list,
+        };
+        let least = self.keys.put(list, key_at(row, place));
         self.told(least)
     }
 }

@@ -1,4 +1,5 @@
-// The table of the records that are still open, one inside the other: place 0 has the outermost.
+// The table of the records that are still open, one inside the other: place 0 has the outermost. A lent slice with two thin functions over it,
+// and no struct with methods: that is the form which the project names for it (docs/DECISIONS.md, "The right form for each place").
 #![tactic(auto)]
 
 ghost use Rattle.std.specs.Prelude.{◌<◌, length};

@@ -1,4 +1,5 @@
 // The lists' keys, which play the tournament: a list's next start and then the list, so that the least key names what comes next.
+// A usize has no From to or from a u64, nor a u64 to a u32: each cast here is proved to lose nothing.
 ghost use Rattle.std.specs.Prelude.{◌≡◌, ◌+◌, ◌*◌, ◌/◌, ◌%◌, ◌<◌};
 ghost use Rattle.meaning.specs.Limits.{most_tags};
 ghost use Rattle.tournament.specs.Tournament.{past};

@@ -14,11 +14,11 @@ use tournament::Tournament;
 // A walk over all labels of an index.
 #[derive(Drop)]
 pub struct Walk<'a> {
-    pub index: &'a [u8],
+    index: &'a [u8],
     // The place in the index of each list's next label: of no account for no list.
-    pub places: [usize; Index::MOST_TAGS],
+    places: [usize; Index::MOST_TAGS],
     // The lists' keys there.
-    pub keys: Tournament,
+    keys: Tournament,
     // What was handed out comes before what is left, and the keys are the lists'.
     pub ghost standing: { Standing index.now places keys } by { standing_prop index.now places keys },
 }

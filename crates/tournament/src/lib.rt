@@ -36,7 +36,7 @@ impl Model for Tournament {
     ghost invariant = { λ t. Bracket t.players t.nodes };
 }
 
-// The node that plays against node i.
+// The node that plays against node i: a function of its own, since its contract is the fact on which `put` rests.
 fn beside(i: usize) -> usize
     ensures { result + 2 * (i % 2) ≡ i + 1 }
 {
@@ -89,6 +89,7 @@ impl Tournament {
         // Node i's number, kept here so that no level waits for what the one below it stored.
         let mut best = number;
         self.nodes[i] = best;
+        // The way up halves i each time: no range goes by halves, and a chain of them would be no plainer.
         while 1 < i {
             let sibling = self.nodes[beside(i)];
             best = best.min(sibling);

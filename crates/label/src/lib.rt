@@ -12,7 +12,8 @@ use meaning::Label;
 #[tactic(auto, unfolding(meaning::specs::Bytes::u16_at))]
 pub fn u16_at(s: &[u8], at: usize) -> u32
     requires { at + 2 ≤ length s.now }
-    ensures { (result ≡ u16_at s.now at) × (result < 65536) }
+    ensures value { result ≡ u16_at s.now at }
+    ensures fits { result < 65536 }
 {
     u32::from(u16::from_le_bytes([s[at], s[at + 1]]))
 }
@@ -21,15 +22,20 @@ pub fn u16_at(s: &[u8], at: usize) -> u32
 #[tactic(auto, unfolding(meaning::specs::Bytes::u32_at))]
 pub fn u32_at(s: &[u8], at: usize) -> u32
     requires { at + 4 ≤ length s.now }
-    ensures { (result ≡ u32_at s.now at) × (result < 4294967296) }
+    ensures value { result ≡ u32_at s.now at }
+    ensures fits { result < 4294967296 }
 {
     u32::from_le_bytes([s[at], s[at + 1], s[at + 2], s[at + 3]])
 }
 
+// Labels are read by a place and a number, and no struct holds where a body lies: callers keep many bodies' places in arrays, as numbers, since
+// an array of structs with references is refused.
+
 // The start of label i of the body that begins at `at`.
 pub fn start_at(s: &[u8], at: usize, i: usize) -> u32
     requires { at + 8 * i + 8 ≤ length s.now }
-    ensures { (result ≡ (label_at s.now at i).start) × (result < 4294967296) }
+    ensures value { result ≡ (label_at s.now at i).start }
+    ensures fits { result < 4294967296 }
 {
     u32_at(s, at + Label::BYTES * i)
 }
@@ -37,7 +43,8 @@ pub fn start_at(s: &[u8], at: usize, i: usize) -> u32
 // The end of label i of the body that begins at `at`.
 pub fn end_at(s: &[u8], at: usize, i: usize) -> u32
     requires { at + 8 * i + 8 ≤ length s.now }
-    ensures { (result ≡ (label_at s.now at i).end) × (result < 4294967296) }
+    ensures value { result ≡ (label_at s.now at i).end }
+    ensures fits { result < 4294967296 }
 {
     u32_at(s, at + Label::BYTES * i + Label::END_AT)
 }
@@ -77,7 +84,9 @@ fn halved(s: &[u8], at: usize, n: usize, v: u32, low: usize, high: usize) -> usi
 // next label is looked at first, then one as far again from there each time, until one starts after `v` or the list ends. Between the last
 // two the number is found by halving. (No iterator's steps grow by what was found, so this loop is a `while`.)
 pub fn started_from(s: &[u8], at: usize, n: usize, from: usize, v: u32) -> usize
-    requires { (at + 8 * n ≤ length s.now) × Ascends s.now at n × Between s.now at n v from n }
+    requires room { at + 8 * n ≤ length s.now }
+    requires ascends { Ascends s.now at n }
+    requires between { Between s.now at n v from n }
     ensures { Started s.now at n v result }
 {
     let mut low = from;

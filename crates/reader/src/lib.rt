@@ -37,7 +37,7 @@ impl<'a> Reader<'a> {
 }
 
 // The labels of the body from the reader's place on.
-impl<'a> Iterator for Reader<'a> {
+impl Iterator for Reader<'_> {
     type Item = Label;
 
     ghost next_gives = { Gives };

@@ -1,9 +1,10 @@
-// A lawful day: its rows, and what it has under a name.
-ghost use Rattle.std.specs.Prelude.{◌≡◌, ◌<◌};
-ghost use Rattle.meaning.specs.Day.{tags, Finds, body_of};
+// A lawful day: its table of contents, and what it has under a name.
+ghost use Rattle.std.specs.Prelude.{◌≡◌};
+ghost use Rattle.meaning.specs.Day.{Finds, body_of};
 ghost use Rattle.meaning.specs.Refusals.{Lawful};
 
-use crate::rows::{Row, body_at, tags_of};
+use crate::placed::Contents;
+use crate::rows::body_at;
 use filled::is_filled;
 use meaning::Body;
 
@@ -15,23 +16,12 @@ pub struct LawfulDay<'a> {
 }
 
 impl<'a> LawfulDay<'a> {
-    // How many rows it has.
-    pub fn tags(self) -> usize
-        ensures { result ≡ tags self.entry.index.now }
+    // Its table of contents.
+    #[tactic(auto, using(crate::proofs::Placing::lawful_placed))]
+    pub fn contents(self) -> Contents<'a>
+        ensures { result.index ≡ self.entry.index }
     {
-        tags_of(self.index)
-    }
-
-    // Its row r.
-    pub fn row(self, r: usize) -> Row<'a>
-        requires { r < tags self.index.now }
-        ensures index { result.index ≡ self.entry.index }
-        ensures number { result.number ≡ r }
-    {
-        Row {
-            index: self.index,
-            number: r,
-        }
+        Contents { index: self.index }
     }
 
     // Looks up a name: its list, as where the body begins and its number of labels, if a row has the name. The rows are looked at from the last
@@ -39,8 +29,9 @@ impl<'a> LawfulDay<'a> {
     pub fn find(self, name: &[u8]) -> Option<Body>
         ensures { Finds self.entry.index.now name.now result }
     {
-        for r in (0..self.tags()).rev() {
-            let row = self.row(r);
+        let contents = self.contents();
+        for r in (0..contents.tags()).rev() {
+            let row = contents.row(r);
             if is_filled(row.name_field(), name) {
                 return Some(row.list());
             }

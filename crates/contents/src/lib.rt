@@ -2,7 +2,9 @@
 #![tactic(auto)]
 
 mod lawful;
+mod placed;
 pub mod rows;
 
 pub use lawful::{LawfulDay, find, lookup};
+pub use placed::Contents;
 pub use rows::Row;

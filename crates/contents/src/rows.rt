@@ -2,7 +2,7 @@
 ghost use Rattle.std.specs.Prelude.{◌≡◌, ◌+◌, ◌*◌, ◌<◌, ◌≤◌, length};
 ghost use Rattle.meaning.specs.Limits.{most_name};
 ghost use Rattle.meaning.specs.Day.{tags, version, name_field, offset, count, row_at, row_list};
-ghost use Rattle.contents.specs.Parts.{Placed, InIndex, bytes_of, row_body};
+ghost use Rattle.contents.specs.Parts.{InIndex, bytes_of};
 
 use meaning::{Body, Index, Label, Name};
 
@@ -105,13 +105,4 @@ pub fn end_of(index: &[u8], r: usize) -> usize
     ensures { result ≡ offset index.now r + 8 * count index.now r }
 {
     Row { index, number: r }.end()
-}
-
-// The body of row r.
-pub fn body_of(index: &[u8], r: usize) -> &[u8]
-    requires placed { Placed index.now }
-    requires row { r < tags index.now }
-    ensures { result.now ≡ row_body index.now r }
-{
-    body_at(index, Row { index, number: r }.list())
 }

@@ -4,10 +4,9 @@
 ghost use Rattle.std.specs.Prelude.{◌<◌};
 ghost use Rattle.meaning.specs.Answers.{Decides};
 ghost use Rattle.meaning.specs.Day.{tags, lists_of, WrongLists};
-ghost use Rattle.contents.specs.Parts.{Placed};
 ghost use Rattle.lists.specs.Ordering.{BodyWrong, ListWrong, Looked};
 
-use contents::rows;
+use contents::Contents;
 use meaning::Label;
 use reader::Reader;
 
@@ -38,21 +37,19 @@ fn body_wrong(body: &[u8]) -> bool
 }
 
 // Whether list r is wrong by itself.
-fn list_wrong(index: &[u8], r: usize) -> bool
-    requires placed { Placed index.now }
-    requires below { r < tags index.now }
-    ensures { Decides (ListWrong (lists_of index.now) r) result }
+fn list_wrong(contents: Contents, r: usize) -> bool
+    requires { r < tags contents.index.now }
+    ensures { Decides (ListWrong (lists_of contents.entry.index.now) r) result }
 {
-    body_wrong(rows::body_of(index, r))
+    body_wrong(contents.body(r))
 }
 
 // Whether some list is wrong by itself.
-pub fn lists_wrong(index: &[u8]) -> bool
-    requires { Placed index.now }
-    ensures { Decides (WrongLists index.now) result }
+pub fn lists_wrong(contents: Contents) -> bool
+    ensures { Decides (WrongLists contents.entry.index.now) result }
 {
-    for r in 0..rows::tags_of(index) {
-        if list_wrong(index, r) {
+    for r in 0..contents.tags() {
+        if list_wrong(contents, r) {
             return true;
         }
     }

@@ -8,5 +8,5 @@ use Rattle.lists.proofs.list_wrong.Goals as goal
 
 pub returns : goal.returns
 returns c =
-    decides_as (list_by_body _ _ c.requires.placed c.requires.below) (body_by_list _ _ c.requires.placed c.requires.below)
-    (subst (λ (b : List _). Decides (BodyWrong b) c.body_wrong.result) c.body_of.ensures c.body_wrong.ensures)
+    decides_as (list_by_body _ _ c.args.contents.placed c.requires) (body_by_list _ _ c.args.contents.placed c.requires)
+    (subst (λ (b : List _). Decides (BodyWrong b) c.body_wrong.result) c.body.ensures c.body_wrong.ensures)

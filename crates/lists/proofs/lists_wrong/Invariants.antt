@@ -5,4 +5,4 @@ use Rattle.lists.specs.Ordering.{ListWrong}
 use Rattle.lists.proofs.lists_wrong.Given as goal
 
 abbrev pub invariant-loop-r : goal.invariant-loop-r
-invariant-loop-r l = (k : ℕ) → k < l.r → ListWrong (lists_of l.index) k → ⊥
+invariant-loop-r l = (k : ℕ) → k < l.r → ListWrong (lists_of l.contents.index.now) k → ⊥

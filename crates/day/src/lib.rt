@@ -5,6 +5,7 @@ mod sweep;
 
 ghost use Rattle.meaning.specs.Refusals.{Judged, check_table};
 
+use contents::Contents;
 use lists::lists_wrong;
 use meaning::Refusal;
 use sweep::nesting_wrong;
@@ -15,10 +16,11 @@ pub fn check(index: &[u8]) -> Result<(), Refusal>
     ensures { Judged (check_table index.now) result }
 {
     table::check(index)?;
-    if lists_wrong(index) {
+    let contents = Contents { index };
+    if lists_wrong(contents) {
         return Err(Refusal::WrongLists);
     }
-    if nesting_wrong(index) {
+    if nesting_wrong(contents) {
         return Err(Refusal::WrongNesting);
     }
     Ok(())

@@ -1,9 +1,9 @@
 // Refusal 6: all lists together, in order of start, with the table of the records that are still open.
 ghost use Rattle.meaning.specs.Answers.{Decides};
 ghost use Rattle.meaning.specs.Day.{lists_of, WrongNesting};
-ghost use Rattle.contents.specs.Parts.{Placed};
 ghost use Rattle.lists.specs.Ordering.{Ordered};
 
+use contents::Contents;
 use meaning::Label;
 use open::Open;
 use order::Walk;
@@ -11,12 +11,11 @@ use turn::Turn;
 
 // Whether two labels share a number or cross, or 65 are nested. The table is here: of its places the first `depth` hold the open records, outermost first,
 // and are lent to each turn.
-pub fn nesting_wrong(index: &[u8]) -> bool
-    requires placed { Placed index.now }
-    requires ordered { Ordered (lists_of index.now) }
-    ensures { Decides (WrongNesting index.now) result }
+pub fn nesting_wrong(contents: Contents) -> bool
+    requires { Ordered (lists_of contents.index.now) }
+    ensures { Decides (WrongNesting contents.entry.index.now) result }
 {
-    let mut walk = Walk::begin(index);
+    let mut walk = Walk::begin(contents);
     let mut coming = walk.comes_next();
     let mut table = [Open::default(); Label::MOST_NESTED];
     let mut depth = 0;

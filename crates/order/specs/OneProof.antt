@@ -4,21 +4,12 @@ use Rattle.std.specs.Coded.{le_prop}
 use Rattle.std.proofs.Math.Nat.{ℕ_set}
 use Rattle.std.proofs.Common.{ap, inl, inr}
 use native.Mathlib.Nat.{ne_of_lt}
-use Rattle.contents.specs.Parts.{Placed}
+use Rattle.contents.specs.OneProof.{placed_prop}
 use Rattle.meaning.specs.Day.{lists_of}
 use Rattle.meaning.specs.Labels.{Lists, Place}
 use Rattle.order.specs.Walk.{Ascend, Precedes, Sorted}
 use Rattle.order.specs.Keys.{Key, Keys}
 use Rattle.order.specs.Standing.{cursor, AtLabel, Cursors, Standing}
-
--- Every row and every list lies within the index.
-placed_prop : (b : List ℕ) → IsProp (Placed b)
-placed_prop b p q = λ i. record {
-  few = le_prop p.few q.few i;
-  rows = le_prop p.rows q.rows i;
-  held = λ r l. le_prop (p.held r l) (q.held r l) i;
-  small = λ r l. le_prop (p.small r l) (q.small r l) i;
-}
 
 -- The lists ascend.
 ascend_prop : (t : Lists) → IsProp (Ascend t)

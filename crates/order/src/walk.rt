@@ -1,13 +1,12 @@
 // A walk: the lists' places in the index, and a tournament of their keys there.
 ghost use Rattle.std.specs.Prelude.{◌≡◌};
 ghost use Rattle.meaning.specs.Day.{lists_of};
-ghost use Rattle.contents.specs.Parts.{Placed};
 ghost use Rattle.order.specs.Walk.{Ascend, Comes, Foretells};
 ghost use Rattle.order.specs.Standing.{cursor, Names, Standing, Begun, HandsOut};
 ghost use Rattle.order.specs.OneProof.{standing_prop};
 
 use crate::{Met, key_at, keys};
-use contents::{Row, rows};
+use contents::{Contents, Row};
 use meaning::{Index, Label};
 use tournament::Tournament;
 
@@ -25,24 +24,23 @@ pub struct Walk<'a> {
 
 impl<'a> Walk<'a> {
     // Begins a walk: nothing was handed out.
-    pub fn begin(index: &'a [u8]) -> Walk<'a>
-        requires placed { Placed index.now }
-        requires ascend { Ascend (lists_of index.now) }
-        ensures index { result.index ≡ index.entry }
-        ensures begun { Begun index.now result.places }
+    pub fn begin(contents: Contents<'a>) -> Walk<'a>
+        requires ascend { Ascend (lists_of contents.index.now) }
+        ensures index { result.index ≡ contents.entry.index }
+        ensures begun { Begun contents.entry.index.now result.places }
     {
-        let lists = rows::tags_of(index);
+        let lists = contents.tags();
         let mut places = [0; Index::MOST_TAGS];
         let mut keys = [0; Index::MOST_TAGS];
         for r in 0..lists {
-            let row = Row { index, number: r };
+            let row = contents.row(r);
             let place = row.offset();
             places[r] = place;
             keys[r] = key_at(row, place);
         }
         let keys = Tournament::new(&keys[..lists]);
         Walk {
-            index,
+            index: contents.index,
             places,
             keys,
         }

@@ -6,14 +6,14 @@ use Rattle.lists.proofs.Listing.{ordered_of}
 use Rattle.day.proofs.CheckLaws.{lists_refuse, none_refuses}
 use Rattle.day.proofs.check.Goals as goal
 
-pub lists_wrong-requires : goal.lists_wrong-requires
-lists_wrong-requires c = placed_of _ c.in_ok-check.ensures
+pub invariant_of-contents : goal.invariant_of-contents
+invariant_of-contents c = record { placed = placed_of _ c.in_ok-check.ensures }
 
 pub returns-then-lists_wrong : goal.returns-then-lists_wrong
 returns-then-lists_wrong c = lists_refuse c.args.index.now 5 c.in_ok-check.ensures (inl (if_true c.lists_wrong.ensures c.if-lists_wrong.true, refl))
 
 pub nesting_wrong-requires : goal.nesting_wrong-requires
-nesting_wrong-requires c = record { placed = placed_of _ c.in_ok-check.ensures; ordered = ordered_of _ (if_false c.lists_wrong.ensures c.if-lists_wrong.false) }
+nesting_wrong-requires c = ordered_of _ (if_false c.lists_wrong.ensures c.if-lists_wrong.false)
 
 pub returns-then-nesting_wrong : goal.returns-then-nesting_wrong
 returns-then-nesting_wrong c =

@@ -50,14 +50,6 @@ impl<'a> LawfulDay<'a> {
     }
 }
 
-// What a name's list is in an index that is known to be lawful.
-pub fn find(index: &[u8], name: &[u8]) -> Option<Body>
-    requires { Lawful index.now }
-    ensures { Finds index.now name.now result }
-{
-    LawfulDay { index }.find(name)
-}
-
 // The body of a name's list in an index that is known to be lawful.
 pub fn lookup<'a>(index: &'a [u8], name: &[u8]) -> &'a [u8]
     requires { Lawful index.now }

@@ -89,20 +89,3 @@ pub fn body_at(index: &[u8], list: Body) -> &[u8]
     let to = from + Label::BYTES * list.count;
     &index[from..to]
 }
-
-// Where the body of row r begins.
-pub fn offset_of(index: &[u8], r: usize) -> usize
-    requires { row_at r + 24 ≤ length index.now }
-    ensures value { result ≡ offset index.now r }
-    ensures most { result < 4294967296 }
-{
-    Row { index, number: r }.offset()
-}
-
-// Where the body of row r ends.
-pub fn end_of(index: &[u8], r: usize) -> usize
-    requires { row_at r + 24 ≤ length index.now }
-    ensures { result ≡ offset index.now r + 8 * count index.now r }
-{
-    Row { index, number: r }.end()
-}

@@ -9,7 +9,7 @@ ghost use Rattle.meaning.specs.Refusals.{Judged, times_table};
 ghost use Rattle.contents.specs.Parts.{InIndex};
 ghost use Rattle.times.specs.Entries.{EndsPast};
 
-use contents::LawfulDay;
+use contents::{Contents, LawfulDay};
 use meaning::{Body, Refusal};
 
 // Whether a label of a list ends at a number that has none of so many entries.
@@ -21,18 +21,19 @@ fn ends_past(index: &[u8], list: Body, entries: usize) -> bool
 }
 
 // Whether a label of row r's list does.
-fn row_ends_past(day: LawfulDay, r: usize, entries: usize) -> bool
-    requires { r < tags day.index.now }
-    ensures { Decides (EndsPast day.entry.index.now (row_list day.entry.index.now r) entries) result }
+fn row_ends_past(contents: Contents, r: usize, entries: usize) -> bool
+    requires { r < tags contents.index.now }
+    ensures { Decides (EndsPast contents.entry.index.now (row_list contents.entry.index.now r) entries) result }
 {
-    ends_past(day.index, day.row(r).list(), entries)
+    ends_past(contents.index, contents.row(r).list(), entries)
 }
 
 // Whether some start or end of a lawful day has no entry. A label's end is the greater of its numbers, so that the ends are enough.
 fn entry_missing(day: LawfulDay, times: &[u32]) -> bool
     ensures { Decides (NoEntry day.entry.index.now times.now) result }
 {
-    (0..day.tags()).any(|r| row_ends_past(day, r, times.len()))
+    let contents = day.contents();
+    (0..contents.tags()).any(|r| row_ends_past(contents, r, times.len()))
 }
 
 // Whether an entry anywhere in the list is smaller than the one before. The pass has no other way out than its end, so that the compiler may

@@ -1,17 +1,16 @@
--- The lists of a lawful day lie within it.
+-- The lists of an index whose table of contents is right lie within it.
 use Rattle.std.proofs.Common.{◌≡◌}
 use Rattle.meaning.specs.Day.{row_list}
-use Rattle.contents.proofs.Placing.{lawful_placed}
 use Rattle.times.proofs.row_ends_past.Goals as goal
 
 pub ends_past-requires : goal.ends_past-requires
 ends_past-requires c =
-    let b = c.args.day.index.now in
+    let b = c.args.contents.index.now in
     let list_is : c.list.result ≡ row_list b c.args.r = cc in
-    rw list_is ((lawful_placed b c.args.day.lawful).held _ c.requires)
+    rw list_is (c.args.contents.placed.held _ c.requires)
 
 pub returns : goal.returns
 returns c =
-    let b = c.args.day.index.now in
+    let b = c.args.contents.index.now in
     let list_is : c.list.result ≡ row_list b c.args.r = cc in
     rw list_is at c.ends_past.ensures

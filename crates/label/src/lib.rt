@@ -28,8 +28,7 @@ pub fn u32_at(s: &[u8], at: usize) -> u32
     u32::from_le_bytes([s[at], s[at + 1], s[at + 2], s[at + 3]])
 }
 
-// Labels are read by a place and a number, and no struct holds where a body lies: callers keep many bodies' places in arrays, as numbers, since
-// an array of structs with references is refused.
+// The three that follow ask for one bound, and no struct holds it: it would be made anew at each call, for one read, and say what the clause says.
 
 // The start of label i of the body that begins at `at`.
 pub fn start_at(s: &[u8], at: usize, i: usize) -> u32

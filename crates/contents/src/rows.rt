@@ -1,4 +1,5 @@
-// The table of contents of an index: its head, its rows, and the bodies of their lists.
+// The table of contents of an index: its head, its rows, and the bodies of their lists. A number of 32 bits is made a usize by a cast, since there is
+// no `From` for the two.
 ghost use Rattle.std.specs.Prelude.{◌≡◌, ◌+◌, ◌*◌, ◌<◌, ◌≤◌, length};
 ghost use Rattle.meaning.specs.Limits.{most_name};
 ghost use Rattle.meaning.specs.Day.{tags, version, name_field, offset, count, row_at, row_list};
@@ -9,7 +10,8 @@ use meaning::{Body, Index, Label, Name};
 // T, the number of tags.
 pub fn tags_of(index: &[u8]) -> usize
     requires { 4 ≤ length index.now }
-    ensures { (result ≡ tags index.now) × (result < 65536) }
+    ensures value { result ≡ tags index.now }
+    ensures most { result < 65536 }
 {
     label::u16_at(index, 0) as usize
 }

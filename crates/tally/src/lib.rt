@@ -83,7 +83,7 @@ fn decide(board: Option<u32>, cancel: Option<u32>) -> Outcome
     }
 }
 
-// The wait from a call's start to the number at which it ends, in 64 bits.
+// The wait from a call's start to the number at which it ends, in 64 bits. A place of 32 bits is made a usize by a cast: there is no `From` for it.
 fn wait(times: &[u32], start: u32, until: u32) -> u64
     requires { WaitTimed times.now start until }
     ensures value { result ≡ at times.now until - at times.now start }

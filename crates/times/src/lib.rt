@@ -12,7 +12,7 @@ ghost use Rattle.times.specs.Entries.{EndsPast};
 use contents::{Contents, LawfulDay};
 use meaning::{Body, Refusal};
 
-// Whether a label of a list ends at a number that has none of so many entries.
+// Whether a label of a list ends at a number that has none of so many entries. There is no `From` of 32 bits to a usize: a cast.
 fn ends_past(index: &[u8], list: Body, entries: usize) -> bool
     requires { InIndex index.now list }
     ensures { Decides (EndsPast index.now list entries) result }

@@ -1,8 +1,10 @@
 -- The numbers that play, as a list: what a store makes of them, and that the root is the least of them.
 use Prim.Native.Nat.{ℕ, ◌+◌, ◌-◌, ◌*◌, ◌≤◌, ◌<◌}
+use native.Mathlib.Nat.{eq-or-lt_of_le}
 use native.Mathlib.Decide.{ℕ_discrete}
 use native.Mathlib.Omega.{arith}
 use mathlib.Core.Path.{◌≡◌, refl, sym, ap, subst, ◌∙◌}
+use mathlib.Core.Logic.{⊎_elim}
 use mathlib.Core.List.{List}
 use lib.ListN.{length, take, drop, set, length-set}
 use lib.Seq.{get_or-set_same, get_or-set_other}
@@ -65,3 +67,10 @@ least_of m xs v w root none = record {
 
     go : 0 < m → (j : ℕ) × (j < m) × (at xs (m + j) ≡ at xs 1) → (j : ℕ) × (j < length (leaves m xs)) × (at (leaves m xs) j ≡ v)
     go k (j, l, e) = (j, omega (arith, long), leaf_at m xs j l ∙ e ∙ sym (root k))
+
+-- The least is one.
+pub least_one : (xs : List ℕ) (v w : ℕ) → Least xs v → Least xs w → v ≡ w
+least_one xs v w a b = ⊎_elim (λ e. a.none (sym e) ∙ sym (b.none (sym e))) (λ some. go (a.one some) (b.one some)) (eq-or-lt_of_le {n = 0} {m = length xs} (omega arith))
+  where
+    go : (j : ℕ) × (j < length xs) × (at xs j ≡ v) → (j : ℕ) × (j < length xs) × (at xs j ≡ w) → v ≡ w
+    go (j, l, e) (k, m, f) = omega (arith, e, f, a.below k m, b.below j l)

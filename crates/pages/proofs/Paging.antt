@@ -9,12 +9,11 @@ use mathlib.Core.Logic.{inl, inr, ⊎_elim}
 use mathlib.Core.Bool.{Bool, true, false, true≢false, false≢true}
 use mathlib.Core.List.{List, [], ◌∷◌, ◌++◌, append-nil, append_assoc}
 use lib.Dec.{ltb}
-use lib.ListN.{length, get_or, set, replicate, take, drop, take-append-drop, length-append, length-drop, length-set}
-use lib.Seq.{get_or-take, length-take-le, get_or-set_same, get_or-set_other, take-append_seam, take-take, take-nil, drop-drop}
-use borrow.Rule.Slice.PartMut.{put_mid}
+use lib.ListN.{length, get_or, set, replicate, take, drop, take-append-drop, length-append, length-set}
+use lib.Seq.{paste, take_all, get_or-take, length-take-le, get_or-set_same, get_or-set_other, take-append_seam, take-take, take-nil, drop-drop}
 use Rattle.std.specs.Prelude.{Option}
 use Rattle.std.proofs.lemmas.List.{get_or-drop, length-take}
-use Rattle.std.proofs.lemmas.Slice.{take-put_mid, drop-put_mid}
+use Rattle.std.proofs.lemmas.List.Edits.{length-paste, take-paste, drop-paste}
 use Rattle.meaning.specs.declared.Page.{Page}
 use Rattle.meaning.specs.Limits.{most_labels}
 use Rattle.meaning.specs.Bytes.{at}
@@ -119,12 +118,8 @@ pub record Writing (a : Asked) (Row : ℕ → List ℕ → Type 0) (place room w
   pub kept : drop (n * width) out ≡ drop (n * width) entry
   pub rest : (js : List ℕ) → Records a (at xs a.returned) js → Records a place (is ++ js)
 
--- A part of a buffer that is written leaves the buffer as long as it was.
-length-put_mid : (to k : ℕ) (xs v : List ℕ) → to + k ≤ length xs → length v ≡ k → length (put_mid to k xs v) ≡ length xs
-length-put_mid to k xs v l e = simp (length-append, length-drop) (omega (arith, length-take-le to xs (omega arith)))
-
 -- The row after n rows begins a row's width further.
-row_on : (n width : ℕ) → (n + 1) * width ≡ n * width + width
+pub row_on : (n width : ℕ) → (n + 1) * width ≡ n * width + width
 row_on n width = omega (arith, suc-mul n width, ap (λ (k : ℕ). k * width) (add-one n))
 
 module _ {a : Asked} (fit : Fit a) {Row : ℕ → List ℕ → Type 0} {place room width : ℕ} {entry out xs : List ℕ} {n first : ℕ}
@@ -170,17 +165,20 @@ module _ {a : Asked} (fit : Fit a) {Row : ℕ → List ℕ → Type 0} {place ro
 
     -- A row v is written behind the others, from `to` on. The cursors are settled again from the returned step on, or from a step before it.
     pub page_row : n < room → length ys ≡ 32 → a.steps ≤ 32 → (v : List ℕ) → Row (at ys a.returned) v → length v ≡ width → (n + 1) * width ≤ length out
-        → (to k here first' : ℕ) → to ≡ n * width → k ≡ width → here ≡ at ys a.returned + 1 → first' ≤ a.returned
-        → Writing a Row place room width entry (put_mid to k out v) (set ys a.returned here) (n + 1) first'
-    page_row l yl k32 v is_row vl within to k here first' to_is k_is here_is fl =
+        → (new : List ℕ) (to k here first' : ℕ) → new ≡ paste out to v k → to ≡ n * width → k ≡ width → here ≡ at ys a.returned + 1 → first' ≤ a.returned
+        → Writing a Row place room width entry new (set ys a.returned here) (n + 1) first'
+    page_row l yl k32 v is_row vl within new to k here first' new_is to_is k_is here_is fl =
         let i : ℕ = at ys a.returned in
         let rl : a.returned < length ys = omega (arith, fit.returned_lt) in
         let next : (n + 1) * width ≡ n * width + width = row_on n width in
-        let head : take ((n + 1) * width) (put_mid to k out v) ≡ take (n * width) out ++ v = take-put_mid to k out v ((n + 1) * width) (omega (arith, next)) (omega (arith, next)) ∙ ap (λ (t : ℕ). take t out ++ v) to_is in
-        let tail : drop ((n + 1) * width) (put_mid to k out v) ≡ drop ((n + 1) * width) out = drop-put_mid to k out v ((n + 1) * width) (omega (arith, next)) (omega (arith, next)) (omega arith) in
-        rw here_is (record {
+        let end : (n + 1) * width ≡ to + k = omega (arith, next) in
+        let head : take ((n + 1) * width) (paste out to v k) ≡ take (n * width) out ++ v =
+        ap (λ (t : ℕ). take t (paste out to v k)) end ∙ take-paste out to v k (omega (arith, end)) (omega arith) ∙ ap₂ (λ (t : ℕ) (u : List ℕ). take t out ++ u) to_is (take_all k v (omega arith)) in
+        let tail : drop ((n + 1) * width) (paste out to v k) ≡ drop ((n + 1) * width) out =
+        ap (λ (t : ℕ). drop t (paste out to v k)) end ∙ drop-paste out to v k (omega (arith, end)) (omega arith) ∙ ap (λ (t : ℕ). drop t out) (sym end) in
+        rw (new_is, here_is) (record {
           len = simp length-set yl;
-          same = length-put_mid to k out v (omega (arith, next)) (omega arith) ∙ w.same;
+          same = length-paste out to v k (omega (arith, end)) (omega arith) ∙ w.same;
           n_le = omega arith;
           floor = floor_next a fit xs w.floor ys least rl;
           first_le = omega (arith, fit.returned_lt);

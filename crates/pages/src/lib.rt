@@ -3,7 +3,8 @@
 
 mod rows;
 
-ghost use Rattle.std.specs.Prelude.{◌≡◌, ℕ, ◌/◌, ◌<◌, ◌≤◌, false, length, set, replicate};
+ghost use Rattle.std.specs.Prelude.{◌≡◌, ℕ, ◌+◌, ◌/◌, ◌<◌, ◌≤◌, false, length, set, replicate};
+ghost use Rattle.std.proofs.Math.Seq.{paste};
 ghost use Rattle.meaning.specs.Limits.{most_labels, most_steps};
 ghost use Rattle.meaning.specs.Bytes.{at};
 ghost use Rattle.meaning.specs.Pages.{Paged};
@@ -24,12 +25,13 @@ fn start_from(returned: usize, place: usize) -> [usize; Step::MOST]
     pos
 }
 
-// Writes a part of the positions, all of it.
-fn put_row(row: &mut [u32], part: &[usize])
-    requires long { length part.now ≡ length row.old }
+// Writes a part of the positions, all of it, to the buffer at `to`.
+fn put_row(out: &mut [u32], to: usize, part: &[usize])
+    requires within { to + length part.now ≤ length out.old }
     requires small { (i : ℕ) → i < length part.now → at part.now i < most_labels }
-    ensures { row.new ≡ part.now }
+    ensures { out.new ≡ paste out.old to part.now (length part.now) }
 {
+    let row = &mut out[to..to + part.len()];
     for (i, position) in row.iter_mut().enumerate() {
         *position = part[i] as u32;
     }
@@ -74,7 +76,7 @@ pub fn write_page<R: Row>(
             return last_page(plan, rows, unknown);
         }
         let to = rows * width;
-        put_row(&mut out[to..to + width], &pos[steps.start..steps.end]);
+        put_row(out, to, &pos[steps.start..steps.end]);
         pos[returned] += 1;
         first = returned;
     }

@@ -33,6 +33,7 @@ fn put_row(out: &mut [u32], to: usize, part: &[usize])
 {
     let row = &mut out[to..to + part.len()];
     for (i, position) in row.iter_mut().enumerate() {
+        // A position is below the most labels, so that nothing is lost: a conversion that may fail would have nothing to say.
         *position = part[i] as u32;
     }
 }
@@ -86,6 +87,7 @@ pub fn write_page<R: Row>(
     Page {
         rows: room,
         more: true,
+        // It fits as a row's positions do, and so does the number of labels on a last page.
         next: pos[returned] as u32,
         unknown,
     }

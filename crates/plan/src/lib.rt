@@ -19,6 +19,7 @@ pub fn draw(day: LawfulDay, text: &[u8], question: &Question) -> (Plan, Option<u
         let step = question.steps[s];
         let found = day.find(question::name_of(text, step));
         if found.is_none() {
+            // A step's number is below 32, so that nothing is lost.
             unknown = unknown.or(Some(s as u8));
         }
         let list = found.unwrap_or(PlanStep::BLANK.list);

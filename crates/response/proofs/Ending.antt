@@ -6,7 +6,7 @@ use lib.ListN.{length, take, drop}
 use Rattle.meaning.specs.declared.Page.{Page}
 use Rattle.meaning.specs.Limits.{most_steps}
 use Rattle.meaning.specs.Notation.{Path, steps}
-use Rattle.meaning.specs.Picks.{Asked, Evidence, asked}
+use Rattle.meaning.specs.Picks.{Asked, asked}
 use Rattle.meaning.specs.Pages.{Paged}
 use Rattle.meaning.specs.Refusals.{Lawful}
 use Rattle.meaning.specs.Fit.{Fit}

@@ -3,14 +3,14 @@ use Prim.Native.Nat.{ℕ, ◌/◌}
 use mathlib.Core.Path.{◌≡◌, refl, sym, subst}
 use mathlib.Core.List.{List}
 use lib.ListN.{length}
-use Rattle.std.specs.Prelude.{Option, Result, Ok, Err}
+use Rattle.std.specs.Prelude.{Option, Ok, Err}
 use Rattle.meaning.specs.declared.Page.{Page}
 use Rattle.meaning.specs.declared.Question.{Question}
 use Rattle.meaning.specs.declared.refusal.Refusal.{Refusal}
 use Rattle.meaning.specs.Picks.{Asked}
 use Rattle.meaning.specs.Numbers.{number_of}
 use Rattle.meaning.specs.Pages.{Paged, FirstUnknown}
-use Rattle.meaning.specs.Refusals.{Given, Clear, Judged, Lawful, check_table, question_table, call_table}
+use Rattle.meaning.specs.Refusals.{Given, Clear, Lawful, check_table, question_table, call_table}
 use Rattle.meaning.specs.Promises.{refused, page}
 use Rattle.meaning.proofs.Laws.Table.{given_first, given_after, clear_both}
 use Rattle.meaning.proofs.Laws.Few.{few_steps}

@@ -9,26 +9,30 @@ use mathlib.Core.Bool.{true, true≢false}
 use mathlib.Core.List.{List, [], ◌∷◌, ◌++◌}
 use lib.ListN.{length, take, drop, length-append, get_or-append}
 use lib.Seq.{length-take-le, get_or-append-add}
+use Rattle.std.specs.Prelude.{Ok, Err, Option, IfSome}
 use Rattle.meaning.specs.declared.Page.{Page}
+use Rattle.meaning.specs.declared.Question.{Question}
 use Rattle.meaning.specs.Limits.{most_steps}
 use Rattle.meaning.specs.Day.{list_of}
 use Rattle.meaning.specs.Notation.{Path, Follows, steps}
 use Rattle.meaning.specs.Bytes.{at}
 use Rattle.meaning.specs.Picks.{Asked, Evidence, asked, step_at}
-use Rattle.meaning.specs.Pages.{Rows, none, row, Paged, no_step, First, here, nowhere, FirstUnknown, evidence_room}
-use Rattle.meaning.specs.Refusals.{Clear, Lawful, check_table, question_table, call_table}
+use Rattle.meaning.specs.Pages.{Rows, none, row, Paged, First, here, nowhere, FirstUnknown, evidence_room}
+use Rattle.meaning.specs.Refusals.{Clear, Lawful, check_table, question_table}
 use Rattle.meaning.specs.Promises.{Shown, refused, page}
-use Rattle.meaning.proofs.Laws.Table.{given_above, call_rising, clear_first, clear_after, clear_not_given}
+use Rattle.meaning.proofs.Laws.Table.{clear_first, clear_after}
 use Rattle.meaning.proofs.Laws.Notation.{one_tree}
 use Rattle.meaning.proofs.Laws.Step.{steps_some}
 use Rattle.meaning.proofs.Laws.Page.{page_onward}
 use Rattle.meaning.proofs.Laws.Few.{few_steps}
 use Rattle.contents.proofs.FindLaws.{list_within}
-use Rattle.question.specs.declared.Reading.{Reading}
+use Rattle.cursors.specs.declared.Plan.{Plan}
+use Rattle.cursors.specs.declared.PlanStep.{PlanStep}
+use Rattle.cursors.specs.Plan.{planned_step}
 use Rattle.question.specs.Promise.{ReadAs}
 use Rattle.question.specs.Promise as reading
 use Rattle.plan.specs.Drawn.{Asks, Drawn}
-use Rattle.roadthrum.specs.PageRows.{Tells}
+use Rattle.roadthrum.specs.PageRows.{Tells, RowAt}
 
 -- What an accepted call has found.
 pub record Accepted (b text : List ℕ) (place : ℕ) (entry rows : List ℕ) (r : Page) : Type 0 where
@@ -39,9 +43,9 @@ pub record Accepted (b text : List ℕ) (place : ℕ) (entry rows : List ℕ) (r
   pub paged : Paged (asked b follows.tree) (Evidence (asked b follows.tree)) place (evidence_room (asked b follows.tree) (length entry)) entry rows r
   pub told : FirstUnknown b follows.tree r.unknown
 
-pub accepted : (b text : List ℕ) (place : ℕ) (entry rows : List ℕ) (r : Page) → Shown b text place entry rows r → r.refusal ≡ 0 → Accepted b text place entry rows r
-accepted b text place entry rows r (refused {n} g x) e = absurd (omega (arith, given_above (call_table b text) 0 (call_rising b text) n g, x.refusal, e))
-accepted b text place entry rows r (page c f p u) e =
+pub accepted : (b text : List ℕ) (place : ℕ) (entry rows : List ℕ) (r : Page) → Shown b text place entry rows (Ok r) → Accepted b text place entry rows r
+accepted b text place entry rows r (refused {e = n} g x) = absurd (let no : Ok r ≡ Err n = x.refusal in cc)
+accepted b text place entry rows r (page c f p u) =
     let read = clear_after (check_table b) (question_table text) c in
     record {
       lawful = clear_first (check_table b) (question_table text) c;
@@ -53,10 +57,8 @@ accepted b text place entry rows r (page c f p u) e =
     }
 
 -- Reading the question again gives it.
-pub asks : (text : List ℕ) (q : Reading) → ReadAs text q → Clear (question_table text) → (f : Follows text) → steps f.tree ≤ most_steps → Asks text q.question
-asks text q (reading.refused {n} g e) c f few = absurd (clear_not_given (question_table text) n c g)
-asks text q (reading.read c f e) d g few =
-    record { writes = f; few = subst (λ (t : Path). steps t ≤ most_steps) (one_tree g f) few; is = ap (λ (x : Reading). x.question) e }
+pub asks : (text : List ℕ) (q : Question) → ReadAs text (Ok q) → Asks text q
+asks text q (reading.read c f e) = record { writes = f; few = few_steps c f; is = e }
 
 -- Row j of some rows of evidence, which begins at `from`, holds for each step a position of the step's list.
 row_part : (a : Asked) (is ws : List ℕ) → Rows (Evidence a) is ws → (j from s : ℕ) → from ≡ j * a.steps → j < length is → s < a.steps
@@ -90,29 +92,34 @@ module _ (b text : List ℕ) (place : ℕ) (entry rows : List ℕ) (r : Page) (x
         subst (λ (n : ℕ). n < question.count s) (sym (ap (λ (t : List ℕ). at t (from + s)) x.paged.buffer ∙ get_or-append x.paged.written behind 0 _ held.0)) held.1,
       )
 
-  -- The row's end is within the buffer, and with the arrays of the question each of its records is a label within the index.
-  pub labelled : (k ret : ℕ) (hangs offsets counts : List ℕ) (f : Follows text) → Drawn b f.tree k ret hangs offsets counts → (j from : ℕ) → from ≡ j * k → j < r.rows
-      → (from + k ≤ length rows) × ((s : ℕ) → s < k → at offsets s + 8 * at rows (from + s) + 8 ≤ length b)
+  -- Row j can be printed, where the offsets are those of the question's plan.
+  pub labelled : (plan : Plan) (offsets : List ℕ) (f : Follows text) → Drawn b f.tree plan → length offsets ≡ plan.count
+      → ((s : ℕ) → s < plan.count → at offsets s ≡ (planned_step plan s).list.offset) → (j : ℕ) → j < r.rows → RowAt b offsets rows (j * length offsets)
   unfolding asked
-  labelled k ret hangs offsets counts f d j from at_j l =
+  labelled plan offsets f d long are j l =
       let same : x.follows.tree ≡ f.tree = one_tree x.follows f in
-      let k_is : steps x.follows.tree ≡ k = ap steps same ∙ sym d.k_is in
-      let begins : from ≡ j * steps x.follows.tree = at_j ∙ ap (λ (n : ℕ). j * n) (sym k_is) in
+      let k_is : steps x.follows.tree ≡ length offsets = ap steps same ∙ sym d.count_is ∙ sym long in
+      let begins : j * length offsets ≡ j * steps x.follows.tree = ap (λ (n : ℕ). j * n) (sym k_is) in
       let name : ℕ → List ℕ = λ s. (step_at x.follows.tree s).name in
-      let last = position j from (k - 1) begins l (omega (arith, k_is, steps_some x.follows.tree)) in (
-        omega (arith, last.0, k_is, steps_some x.follows.tree),
-        λ s m.
-            let of_tree : at offsets s ≡ (list_of b (name s)).offset = d.offsets_are.are s (omega (arith, d.k_is)) ∙ ap (λ (t : Path). (list_of b (step_at t s).name).offset) (sym same) in
-            omega (arith, of_tree, (position j from s begins l (omega (arith, k_is))).1, list_within b (name s) x.lawful),
-      )
+      let last = position j (j * length offsets) (length offsets - 1) begins l (omega (arith, k_is, steps_some x.follows.tree)) in
+      record {
+        some = omega (arith, k_is, steps_some x.follows.tree);
+        few = omega (arith, k_is, x.few);
+        ended = omega (arith, last.0, k_is, steps_some x.follows.tree);
+        labels = λ s m.
+            let of_tree : at offsets s ≡ (list_of b (name s)).offset =
+            are s (omega (arith, long)) ∙ ap (λ (z : PlanStep). z.list.offset) (d.steps_are.are s (omega (arith, long, d.count_is))) ∙
+            ap (λ (t : Path). (list_of b (step_at t s).name).offset) (sym same) in
+            omega (arith, of_tree, (position j (j * length offsets) s begins l (omega (arith, k_is))).1, list_within b (name s) x.lawful);
+      }
 
   -- The step that the page tells is one of the question's.
   pub tells : Tells text r.unknown
   tells = record { read = x.read; follows = x.follows; step = below x.told }
     where
-      below : {Such : ℕ → Type 0} {many n : ℕ} → First Such many n → (n ≡ no_step → ⊥) → n < many
-      below (here l such before) some = l
-      below (nowhere _) some = absurd (some refl)
+      below : {Such : ℕ → Type 0} {many : ℕ} {n : Option ℕ} → First Such many n → IfSome n (λ s. s < many)
+      below (here l such before) = l
+      below (nowhere _) = tt
 
   -- With room for the longest row, a page that leaves a record over names a later place.
   pub onward : most_steps ≤ length entry → r.more ≡ true → place < r.next

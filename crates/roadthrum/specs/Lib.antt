@@ -1,2 +1,2 @@
-pub mod Files
+-- What the functions of the program ask of each other.
 pub mod PageRows

@@ -1,41 +1,60 @@
-// Reading a file.
-ghost use Rattle.roadthrum.specs.Files.{Fits};
+// Reading the two files.
+ghost use Rattle.std.specs.Prelude.{◌≤◌, length, IfOk};
 
-use std::fs;
+use crate::error::Error;
 use std::io::Read;
 use std::rt::Files;
+use std::{fs, io};
 
-// What was read of a file: how many bytes it put at the beginning of the buffer, or that the file can't be read.
-#[derive(Clone, Copy)]
-pub enum File {
-    Holds(usize),
-    Unreadable,
-}
-
-// Reads until the buffer is full or the file ends. Bytes may arrive in pieces; a folder can be opened, and its first read fails.
-fn fill(open: &mut impl Read, buffer: &mut [u8]) -> File
-    ensures { Fits result buffer.new }
+// Reads until the buffer is full or the file ends, and tells how many bytes it put at the buffer's beginning. Bytes may arrive in pieces; a
+// folder can be opened, and its first read fails.
+fn fill(open: &mut impl Read, buffer: &mut [u8]) -> io::Result<usize>
+    ensures { IfOk result (λ n. n ≤ length buffer.new) }
 {
     let mut done = 0;
     while done < buffer.len() {
         let part = &mut buffer[done..];
-        let Ok(n) = open.read(part) else {
-            return File::Unreadable;
-        };
+        let n = open.read(part)?;
         if n == 0 {
-            return File::Holds(done);
+            break;
         }
         done += n;
     }
-    File::Holds(done)
+    Ok(done)
 }
 
-// Reads the beginning of the file, as much of it as the buffer holds.
-pub fn read_file(rt: &impl Files, path: &str, buffer: &mut [u8]) -> File
-    ensures { Fits result buffer.new }
+// Reads the beginning of the file, as much of it as the buffer holds. Nothing is said of which bytes these are, since no contract can say what a
+// file holds.
+fn read_file<'a>(rt: &impl Files, path: &str, buffer: &'a mut [u8]) -> io::Result<&'a [u8]>
+    ensures { IfOk result (λ part. length part.now ≤ length buffer.old) }
 {
-    let Ok(mut open) = fs::open(rt, path) else {
-        return File::Unreadable;
-    };
-    fill(&mut open, buffer)
+    let mut open = fs::open(rt, path)?;
+    let n = fill(&mut open, buffer)?;
+    Ok(&buffer[..n])
+}
+
+// The day's index and the question's text, as they stand in the two files.
+#[derive(Clone, Copy)]
+pub struct Input<'a> {
+    pub index: &'a [u8],
+    pub text: &'a [u8],
+}
+
+impl<'a> Input<'a> {
+    // Most bytes of a `day.idx` that is read.
+    pub const MOST_INDEX_BYTES: usize = 65_536;
+
+    // Reads both, each into the buffer that is lent for it.
+    pub fn read(
+        rt: &impl Files,
+        index: &'a mut [u8],
+        text: &'a mut [u8],
+    ) -> Result<Input<'a>, Error> {
+        let index = read_file(rt, "day.idx", index).map_err(|_| Error::Unreadable)?;
+        let text = read_file(rt, "query.txt", text).map_err(|_| Error::Unreadable)?;
+        if Input::MOST_INDEX_BYTES < index.len() {
+            return Err(Error::Unreadable);
+        }
+        Ok(Input { index, text })
+    }
 }

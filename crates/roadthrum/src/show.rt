@@ -1,9 +1,16 @@
 // What the program prints: on `out`, which is the standard output, and a note on `err`, the standard error. A call that can't print on `out`
 // gives up with the error.
-ghost use Rattle.std.specs.Prelude.{length};
+ghost use Rattle.std.specs.Prelude.{ℕ, ◌*◌, ◌<◌, ◌≡◌, length};
+ghost use Rattle.meaning.specs.Limits.{most_steps};
+ghost use Rattle.meaning.specs.Bytes.{at};
+ghost use Rattle.cursors.specs.Plan.{planned_step};
 ghost use Rattle.roadthrum.specs.PageRows.{RowAt, PageGiven, Tells};
 
-use lines::{Line, write_line};
+use crate::error::Error;
+use crate::files::Input;
+use contents::LawfulDay;
+use cursors::Plan;
+use lines::Line;
 use meaning::{Page, Step};
 use plan::draw;
 use std::io;
@@ -11,91 +18,74 @@ use std::io;
 // Numbers of a page: 64 rows of the longest question. Each page checks the index again, so that more rows on a page are fewer checks.
 const ROOM: usize = 64 * Step::MOST;
 
-// Prints a word and a number, on a line by themselves.
-fn print_count(out: &impl Print, word: &[u8], number: u64) -> io::Result<()> {
-    out.write_all(word)?;
-    println!(out; "{number}")
-}
-
-// Prints a refusal.
-pub fn print_refusal(out: &impl Print, number: u32) -> io::Result<()> {
-    print_count(out, b"refused ", number as u64)
-}
-
-// Prints the line of the row that begins at `from`.
-fn print_row(
+// Prints the lines of the rows that stand in `rows` one behind the other, each of as many list positions as there are offsets.
+fn print_lines(
     out: &impl Print,
     index: &[u8],
-    k: usize,
-    offsets: &[usize; Step::MOST],
+    offsets: &[usize],
     rows: &[u32],
-    from: usize,
+    many: usize,
 ) -> io::Result<()>
-    requires { RowAt index.now k offsets.now rows.now from }
+    requires { (j : ℕ) → j < many → RowAt index.now offsets.now rows.now (j * length offsets.now) }
 {
-    let mut line = [0u8; Line::MOST_BYTES];
-    let length = write_line(index, k, offsets, rows, from, &mut line);
-    out.write_all(&line[..length])
+    let k = offsets.len();
+    for row in 0..many {
+        let from = row * k;
+        let line = Line::of_row(index, offsets, rows, from);
+        out.write_all(line.as_bytes())?;
+    }
+    Ok(())
+}
+
+// Where the list of each step of a plan begins in the index.
+fn offsets_of(plan: &Plan) -> [usize; Step::MOST]
+    ensures { (s : ℕ) → s < most_steps → at result s ≡ (planned_step plan.now s).list.offset }
+{
+    plan.steps.map(|step| step.list.offset)
 }
 
 // Prints a line for each row of a page that the evidence call gave.
-fn print_rows(
-    out: &impl Print,
-    index: &[u8],
-    text: &[u8],
-    rows: &[u32],
-    page: Page,
-) -> io::Result<()>
-    requires { PageGiven index.now text.now rows.now page }
+fn print_rows(out: &impl Print, input: Input, rows: &[u32], page: Page) -> Result<(), Error>
+    requires { PageGiven input.index.now input.text.now rows.now page }
 {
-    let question = question::read(text).question;
-    let plan = draw(index, text, question);
-    let offsets = plan.offsets;
-    let k = question.count;
-    let many = page.rows;
-    let mut from = 0;
-    let mut row = 0;
-    while row < many {
-        print_row(out, index, k, &offsets, rows, from)?;
-        from += k;
-        row += 1;
-    }
+    let question = question::read(input.text)?;
+    let day = LawfulDay { index: input.index };
+    let (plan, _) = draw(day, input.text, &question);
+    let offsets = offsets_of(&plan);
+    print_lines(out, input.index, &offsets[..plan.count], rows, page.rows)?;
     Ok(())
 }
 
 // Says on standard error, if a step's name has no row in the index, which step it is, counted from 1, and its name as it stands in the text.
 // Whoever misspelled it sees why there are no records. Where nothing can be said there, it is left unsaid.
-fn note_unknown(err: &impl Print, text: &[u8], unknown: u32)
+fn note_unknown(err: &impl Print, text: &[u8], unknown: Option<u8>) -> Result<(), Error>
     requires { Tells text.now unknown }
 {
-    if unknown == Page::NO_STEP {
-        return;
+    if let Some(step) = unknown {
+        let question = question::read(text)?;
+        let name = question::name_of(text, question.steps[usize::from(step)]);
+        let number = u32::from(step) + 1;
+        let _ = print!(err; "note: step {number}: no record of this day is called \"");
+        let _ = err.write_all(name);
+        let _ = println!(err; "\"");
     }
-    let question = question::read(text).question;
-    let step = question.steps[unknown as usize];
-    let number = unknown as u64 + 1;
-    let _ = print!(err; "note: step {number}: no record of this day is called \"");
-    let _ = err.write_all(question::name_of(text, step));
-    let _ = println!(err; "\"");
+    Ok(())
 }
 
-// Prints all evidence, page by page, and how many rows there were, or the refusal.
-pub fn show(out: &impl Print, err: &impl Print, index: &[u8], text: &[u8]) -> io::Result<()> {
+// Prints all evidence, page by page, and answers how many rows there were. It is a loop and no iterator over pages, since all pages are written to
+// the one lent buffer.
+pub fn show(out: &impl Print, err: &impl Print, input: Input) -> Result<u64, Error> {
     let mut rows = [0u32; ROOM];
     let mut place = 0;
     let mut total = 0;
     loop {
-        let page = answer::evidence(index, text, place, &mut rows);
-        if page.refusal != 0 {
-            return print_refusal(out, page.refusal);
-        }
-        print_rows(out, index, text, &rows, page)?;
+        let page = answer::evidence(input.index, input.text, place, &mut rows)?;
+        print_rows(out, input, &rows, page)?;
         total += page.rows as u64;
         if !page.more {
-            note_unknown(err, text, page.unknown);
-            break;
+            note_unknown(err, input.text, page.unknown)?;
+            return Ok(total);
         }
         place = page.next;
     }
-    print_count(out, b"done ", total)
 }

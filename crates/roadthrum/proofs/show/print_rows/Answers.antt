@@ -1,31 +1,19 @@
 -- `roadthrum::show::print_rows` may make its calls: the question is read again as the evidence call read it, and each row is one of its page.
-use Rattle.std.proofs.Common.{arith, rules}
-use Rattle.std.proofs.Math.Nat.{suc-mul}
-use Rattle.meaning.proofs.Laws.Step.{steps_some}
+use Rattle.std.proofs.Common.{◌≡◌, ◌∙◌, length, take, length-take-le, get_or-take, arith, rules}
 use Rattle.roadthrum.proofs.Accepted.{accepted, asks, labelled}
 use Rattle.roadthrum.proofs.show.print_rows.Goals as goal
 
-pub draw-plan-requires : goal.draw-plan-requires
-draw-plan-requires g c =
-    let x = accepted _ _ _ _ _ _ c.requires.shown c.requires.accepted in
-    (x.lawful, asks _ _ c.read.ensures x.read x.follows x.few)
+pub invariant_of-day : goal.invariant_of-day
+invariant_of-day g c = record { lawful = (accepted _ _ _ _ _ _ c.requires.shown).lawful }
 
-pub loop-row-init : goal.loop-row-init
-loop-row-init g c =
-    let x = accepted _ _ _ _ _ _ c.requires.shown c.requires.accepted in
-    let d = c.draw-plan.ensures in (
-      omega arith,
-      λ j f e l. let y = labelled _ _ _ _ _ _ x _ _ _ _ _ d.writes d.drawn j f e l in
-          record { some = omega (arith, d.drawn.k_is, steps_some d.writes.tree); few = omega (arith, d.drawn.k_is, d.few); ended = y.0; each = search rules; labels = y.1 },
-    )
+pub draw-requires : goal.draw-requires
+draw-requires g c = asks _ _ c.in_ok-question.ensures
 
-pub print_row-requires : goal.print_row-requires
-print_row-requires g c = c.loop-row.invariant.1 _ _ c.loop-row.invariant.0 c.loop-row-test.true
-
-pub overflow_add-from : goal.overflow_add-from
-overflow_add-from g c =
-    let row = c.loop-row.invariant.1 _ _ c.loop-row.invariant.0 c.loop-row-test.true in
-    record { fits = omega (arith, row.some, row.ended) }
-
-pub loop-row-preserved : goal.loop-row-preserved
-loop-row-preserved g c = (omega (arith, c.loop-row.invariant.0, suc-mul c.loop-row.row c.read.result.question.count), c.loop-row.invariant.1)
+pub print_lines-requires : goal.print_lines-requires
+print_lines-requires g c =
+    let d = c.draw.ensures in
+    let k = c.draw.result.0.count in
+    let offsets = c.offsets_of-offsets.result in
+    let all : length offsets ≡ 32 = search rules in
+    labelled _ _ _ _ _ _ (accepted _ _ _ _ _ _ c.requires.shown) c.draw.result.0 (take k offsets) d.writes d.drawn (length-take-le k offsets (omega (arith, d.drawn.count_is, d.few)))
+    (λ s l. get_or-take k offsets s 0 l ∙ c.offsets_of-offsets.ensures s (omega (arith, d.drawn.count_is, d.few)))

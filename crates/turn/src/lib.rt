@@ -1,7 +1,7 @@
 // One turn of the sweep of all lists in order of start, with all its decisions; the loop and the table are the caller's.
 #![tactic(auto)]
 
-ghost use Rattle.std.specs.Prelude.{◌≡◌, ◌<◌, ◌≤◌, length, MatchOption};
+ghost use Rattle.std.specs.Prelude.{◌≡◌, ◌<◌, ◌≤◌, length, IfNone, IfSome};
 ghost use Rattle.meaning.specs.Limits.{most_nested};
 ghost use Rattle.meaning.specs.Answers.{Decides};
 ghost use Rattle.meaning.specs.Day.{lists_of};
@@ -26,7 +26,9 @@ pub enum Turn {
 
 // The innermost of the open records, which is the last.
 fn last_of(records: &[Open]) -> Option<Open>
-    ensures { MatchOption result (length records.now ≡ 0) (λ inner. (0 < length records.now) × (inner ≡ innermost records.now)) }
+    ensures none { IfNone result (length records.now ≡ 0) }
+    ensures some { IfSome result (λ inner. 0 < length records.now) }
+    ensures last { IfSome result (λ inner. inner ≡ innermost records.now) }
 {
     let last = records.len().checked_sub(1)?;
     Some(open::pop(records, last))

@@ -5,7 +5,7 @@ use Rattle.meaning.proofs.Decide.{decides_as, lt_decides}
 use Rattle.turn.proofs.closes.Goals as goal
 
 pub returns-in_default : goal.returns-in_default
-returns-in_default c = fails (λ h. omega (arith, h.0, c.in_default.ensures))
+returns-in_default c = fails (λ h. omega (arith, h.0, c.in_default.ensures.none))
 
 pub returns : goal.returns
-returns c = let e = c.in-Some.ensures in rw (← e.1) (decides_as (λ h. (e.0, h)) (λ h. h.1) (lt_decides _ _))
+returns c = let e = c.in-Some.ensures in rw (← e.last) (decides_as (λ h. (e.some, h)) (λ h. h.1) (lt_decides _ _))

@@ -8,7 +8,7 @@ use Rattle.turn.proofs.refused.Goals as goal
 use Rattle.turn.proofs.refused.Goals.{then-inner-start, else-inner-start}
 
 pub returns-in_default : goal.returns-in_default
-returns-in_default c = fails (λ h. omega (arith, h.0, c.in_default.ensures))
+returns-in_default c = fails (λ h. omega (arith, h.0, c.in_default.ensures.none))
 
 -- What holds, by a test that passed.
 decided : {P : Type 0} {b : Bool} → P → b ≡ true → Decides P b
@@ -17,10 +17,10 @@ decided {P} p e = subst (Decides P) (sym e) (holds p)
 pub returns-then-inner-end : goal.returns-then-inner-end
 returns-then-inner-end c =
     let e = c.in-Some.ensures in
-    let why : Refuses c.args.records.now c.args.start c.args.end = rw (← e.1) (e.0, ⊎_elim (λ s. inl (omega arith)) (λ p. inr (inl (omega (arith, p.1)))) c.if-inner-end.either) in
+    let why : Refuses c.args.records.now c.args.start c.args.end = rw (← e.last) (e.some, ⊎_elim (λ s. inl (omega arith)) (λ p. inr (inl (omega (arith, p.1)))) c.if-inner-end.either) in
     decided why (elim c.if-inner-start.branch [ then-inner-start w ↦ grind (arith, nat_tests) | else-inner-start w ↦ grind (arith, nat_tests) ])
 
 pub returns-else-inner-end : goal.returns-else-inner-end
 returns-else-inner-end c =
     let e = c.in-Some.ensures in
-    rw (← e.1) (decides_as (λ f. (e.0, inr (inr f))) (λ h. ⊎_elim (λ s. absurd (c.if-inner-end.false.0 s)) (λ g. ⊎_elim (λ l. absurd (omega (arith, l, c.if-inner-end.false.1))) (λ f. f) g) h.1) (eq_decides _ _))
+    rw (← e.last) (decides_as (λ f. (e.some, inr (inr f))) (λ h. ⊎_elim (λ s. absurd (c.if-inner-end.false.0 s)) (λ g. ⊎_elim (λ l. absurd (omega (arith, l, c.if-inner-end.false.1))) (λ f. f) g) h.1) (eq_decides _ _))

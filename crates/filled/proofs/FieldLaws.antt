@@ -17,6 +17,7 @@ use Rattle.std.specs.declared.cmp.Ordering.{Ordering}
 use Rattle.std.specs.declared.cmp.Ordering.TheVariants.{Less, Equal, Greater}
 use Rattle.std.proofs.lemmas.Cmp.{ranked}
 use Rattle.std.proofs.lemmas.List.{get_or-drop, take_rest}
+use Rattle.std.proofs.lemmas.Bool.{cases_lt}
 use Rattle.std.proofs.lemmas.Bool.Decides.{Decides-eqb}
 use Rattle.std.proofs.lemmas.Slice.Eq.{starts_is}
 use Rattle.meaning.specs.Answers.{Decides, holds, fails}
@@ -28,7 +29,6 @@ use Rattle.meaning.proofs.Laws.Bytes.{zero_at}
 use Rattle.name.specs.Runs.{name_run}
 use Rattle.name.proofs.RunLaws.{run_name, run_of_name, run_within}
 use Rattle.filled.specs.Fields.{ZeroFrom, HasName}
-use Rattle.filled.proofs.Bounds.{below_or_not}
 
 -- A name that is filled up has 16 bytes.
 pub filled_length : (n : List ℕ) → length n ≤ most_name → length (filled n) ≡ most_name
@@ -50,7 +50,7 @@ pub is_filled : (f n : List ℕ) → length f ≡ most_name → length n ≤ mos
 is_filled f n long short same zeros = ext_get_or 0 f (filled n) (long ∙ sym (filled_length n short)) bytes
   where
     bytes : (i : ℕ) → i < length f → get_or f i 0 ≡ get_or (filled n) i 0
-    bytes i l = ⊎_elim (λ h. same i h ∙ sym (filled_byte n i h)) (λ h. zeros i h l ∙ sym (filled_zero n i h)) (below_or_not i (length n))
+    bytes i l = ⊎_elim (λ h. same i h ∙ sym (filled_byte n i h)) (λ h. zeros i h l ∙ sym (filled_zero n i h)) (cases_lt i (length n))
 
 -- Behind a name that is filled up the field has zeros.
 pub filled_zeros : (f n : List ℕ) → f ≡ filled n → ZeroFrom f (length n)

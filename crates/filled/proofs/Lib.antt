@@ -1,3 +1,2 @@
 -- What is known of names in fields, with no mention of code.
-pub mod Bounds
 pub mod FieldLaws

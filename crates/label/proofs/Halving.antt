@@ -1,17 +1,16 @@
 -- The labels that are left between two numbers, as chunks of 8 bytes: they ascend by start, so that a search of the chunks for the first that
 -- starts after v finds how many labels of the body start at or before v.
 use Prim.Native.Nat.{ℕ, zero, suc, ◌+◌, ◌-◌, ◌*◌, ◌≤◌, ◌<◌}
-use native.Mathlib.Nat.{lt_of_not-le}
-use native.Mathlib.Decide.{dec_le}
 use native.Mathlib.Omega.{arith}
 use mathlib.Core.Path.{◌≡◌, refl, ap, ◌∙◌}
+use mathlib.Core.Logic.{⊎_elim}
 use mathlib.Core.Bool.{true, false}
 use mathlib.Core.List.{List, []}
 use lib.Dec.{leb}
 use lib.ListN.{length, take, drop, get_or}
 use Rattle.std.specs.Simd.{first_chunks}
 use Rattle.std.specs.List.Sorted.{IsPartitionedBy, IsPartitionPoint}
-use Rattle.std.proofs.lemmas.Bool.{leb-true, leb-false}
+use Rattle.std.proofs.lemmas.Bool.{leb-true, leb-false, cases_lt}
 use Rattle.std.proofs.lemmas.List.{drop-drop}
 use Rattle.std.proofs.lemmas.List.Sorted.{IsPartitionedBy-leb}
 use Rattle.meaning.specs.Bytes.{u32_at}
@@ -51,20 +50,17 @@ module _ (b : List ℕ) (at n v low high : ℕ) (ascends : Ascends b at n) (w : 
     chunks_settle r within (yes_before, no_behind) = record { within = omega (arith, w.within, w.ordered); first = first; rest = rest }
       where
         first : (i : ℕ) → i < low + r → (label_at b at i).start ≤ v
-        first i l = go (dec_le low i)
+        first i l = ⊎_elim (w.first i) left (cases_lt i low)
           where
-            go : Dec (low ≤ i) → (label_at b at i).start ≤ v
-            go (no h) = w.first i (lt_of_not-le h)
-            go (yes h) =
+            left : low ≤ i → (label_at b at i).start ≤ v
+            left h =
                 let k : low + (i - low) ≡ i = omega arith in
                 omega (arith, leb-true _ _ (yes_before (i - low) [] (omega arith) (omega arith)), begins (i - low) [] (omega arith), ap (λ (j : ℕ). (label_at b at j).start) k)
 
         rest : (i : ℕ) → low + r ≤ i → i < n → v < (label_at b at i).start
-        rest i l m = go (dec_le high i)
+        rest i l m = ⊎_elim left (λ h. w.rest i h m) (cases_lt i high)
           where
-            go : Dec (high ≤ i) → v < (label_at b at i).start
-            go (yes h) = w.rest i h m
-            go (no h) =
+            left : i < high → v < (label_at b at i).start
+            left h =
                 let k : low + (i - low) ≡ i = omega arith in
-                let f : i < high = lt_of_not-le h in
                 omega (arith, leb-false _ _ (no_behind (i - low) [] (omega arith) (omega arith)), begins (i - low) [] (omega arith), ap (λ (j : ℕ). (label_at b at j).start) k)

@@ -1,5 +1,5 @@
--- Searching a body whose labels ascend by start: a look at one of them settles all those on its one side. The doubling and the halving both
--- rest on this.
+-- Searching a body whose labels ascend by start: a look at one of them settles all those on its one side. This is why doubling and halving
+-- find the number, in whatever code.
 use Prim.Native.Nat.{ℕ, ◌+◌, ◌≤◌, ◌<◌}
 use native.Mathlib.Omega.{arith}
 use mathlib.Core.List.{List}

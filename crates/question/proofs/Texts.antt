@@ -14,7 +14,7 @@ use Rattle.meaning.specs.Limits.{most_text, most_steps}
 use Rattle.meaning.specs.Notation.{nothing, write, Follows, steps, depth, last_step, returned_step, NotFollowing}
 use Rattle.draft.specs.declared.Broken.{Broken}
 use Rattle.draft.specs.declared.Draft.{Draft}
-use Rattle.draft.specs.Drafts.{blank_step, filled_up, fresh, handed_on, grown}
+use Rattle.draft.specs.Drafts.{blank_step, filled_up, fresh, grown}
 use Rattle.draft.specs.Steps.{MayRead}
 use Rattle.path.specs.Stored.{size, stored}
 use Rattle.path.specs.Reach.{walked, ReachPath, PathRead, whole, torn}
@@ -111,14 +111,14 @@ parsed {t} f =
     (q, (record { tree = f.tree; named = f.named; text = ap (λ (j : ℕ). drop j t) fresh_at ∙ sym f.written ∙ ap (write f.tree) (sym end); halts = rw end tt; gives = refl }, omega (arith, ap length f.written, fresh_at)))
 
 -- What reading a path hands on where a refusal stands in for its error: the draft where that succeeds.
-pub handed : {t : List ℕ} {q₀ q : Draft} (e : Refusal) (o : Result (Unit {0}) Broken) → ◌≡◌ {A = Result (Unit {0}) Refusal} (Ok tt) (result_or o (Err e)) → PathRead t None 0 q₀ (handed_on o q) → PathRead t None 0 q₀ (Ok q)
-handed e (Ok u) s r = r
+pub handed : {t : List ℕ} {q₀ q : Draft} (e : Refusal) (o : Result Draft Broken) → ◌≡◌ {A = Result Draft Refusal} (Ok q) (result_or o (Err e)) → PathRead t None 0 q₀ o → PathRead t None 0 q₀ (Ok q)
+handed {t} {q₀} {q} e (Ok u) s r = let same : u ≡ q = cc in subst (λ (x : Draft). PathRead t None 0 q₀ (Ok x)) same r
 handed e (Err b) s r = absurd cc
 
 -- Nothing, and the error is that refusal, where it fails.
-pub handed_none : {t : List ℕ} {q₀ : Draft} (q : Draft) {d : Refusal} (e : Refusal) (o : Result (Unit {0}) Broken) → ◌≡◌ {A = Result (Unit {0}) Refusal} (Err d) (result_or o (Err e)) → PathRead t None 0 q₀ (handed_on o q) → PathRead t None 0 q₀ (Err (record {})) × (d ≡ e)
-handed_none q e (Ok u) s r = absurd cc
-handed_none q e (Err b) s r = (r, cc)
+pub handed_none : {t : List ℕ} {q₀ : Draft} {d : Refusal} (e : Refusal) (o : Result Draft Broken) → ◌≡◌ {A = Result Draft Refusal} (Err d) (result_or o (Err e)) → PathRead t None 0 q₀ o → PathRead t None 0 q₀ (Err (record {})) × (d ≡ e)
+handed_none e (Ok u) s r = absurd cc
+handed_none e (Err b) s r = (r, cc)
 
 -- What reading a path says of the text t, from the draft before its first byte on, where it hands on the draft q.
 module _ {t : List ℕ} {q₀ q : Draft} (w : q₀ ≡ fresh) (r : PathRead t None 0 q₀ (Ok q)) where

@@ -16,8 +16,7 @@ pub fn read(text: &[u8]) -> Result<Question, Refusal>
     if too_long {
         return Err(Refusal::TooLong);
     }
-    let mut draft = Draft::new();
-    read_path(text, None, 0, &mut draft).or(Err(Refusal::NotFollowing))?; // No path stands there.
+    let draft = read_path(text, None, 0, Draft::new()).or(Err(Refusal::NotFollowing))?; // No path stands there.
     let rest = text.len() - usize::from(draft.at);
     let goes_on = rest > 0;
     if goes_on {
@@ -32,8 +31,9 @@ pub fn read(text: &[u8]) -> Result<Question, Refusal>
     if too_deep {
         return Err(Refusal::TooLarge); // Its brackets go too deep.
     }
+    let steps = draft.steps;
     Ok(Question {
-        steps: draft.steps,
+        steps,
         count,
         returned: usize::from(draft.last),
     })

@@ -2,10 +2,10 @@
 -- path reaches from where the call began.
 use Rattle.std.proofs.Common.{◌-◌, length}
 use Rattle.path.proofs.PathLoop.{Going}
-use Rattle.path.proofs.+read_path.Given as goal
+use Rattle.path.proofs.+read_into.Given as goal
 
-abbrev pub decreases-read_path : goal.decreases-read_path
-decreases-read_path l = length l.text.now - l.draft.now.at
+abbrev pub decreases-read_into : goal.decreases-read_into
+decreases-read_into l = length l.text.now - l.draft.now.at
 
 abbrev pub invariant-loop-me : goal.invariant-loop-me
 invariant-loop-me l = Going l.text l.fn.hang l.depth l.fn.draft l.draft

@@ -1,7 +1,7 @@
 // The line that the program prints for a row of evidence.
 #![tactic(auto)]
 
-ghost use Rattle.std.specs.Prelude.{ℕ, ◌+◌, ◌*◌, ◌%◌, ◌≤◌, ◌<◌, ◌≡◌, [], ◌∷◌, ◌++◌, length, count_by, nat_le};
+ghost use Rattle.std.specs.Prelude.{ℕ, ◌+◌, ◌*◌, ◌%◌, ◌≤◌, ◌<◌, ◌≡◌, [], ◌∷◌, ◌++◌, length};
 ghost use Rattle.meaning.specs.Limits.{most_steps};
 ghost use Rattle.meaning.specs.Day.{label_at};
 ghost use Rattle.meaning.specs.Bytes.{at};
@@ -30,41 +30,23 @@ impl Model for Line {
     ghost invariant = { λ l. l.used ≤ most_line };
 }
 
-// 10, 100 and so on, up to the last that a number of a label can reach.
-const POWERS: [u32; Line::MOST_DIGITS - 1] = [
-    10,
-    100,
-    1_000,
-    10_000,
-    100_000,
-    1_000_000,
-    10_000_000,
-    100_000_000,
-    1_000_000_000,
-];
-
-// How many of these powers a number reaches.
-fn reached(n: u32) -> usize
-    ensures { result ≡ count_by (λ p. nat_le p n) POWERS }
-{
-    POWERS.iter().filter(|power| **power <= n).count()
-}
-
-// How many decimal digits a number has: one more than there are powers that it reaches.
+// How many decimal digits a number has: one more than its logarithm, and 0 has one. A logarithm is at most 9, so `as` loses nothing; there is
+// no `usize::from` of a u32.
 fn places(n: u32) -> usize
     ensures { Places n result }
 {
-    1 + reached(n)
+    1 + n.checked_ilog10().unwrap_or(0) as usize
 }
 
-// The last decimal digit of a number as a character.
+// The last decimal digit of a number as a character. It is below 10, so `as` loses nothing: `try_from` would make a failure that can't be.
 fn digit(n: u32) -> u8
     ensures { result ≡ 48 + n % 10 }
 {
     b'0' + (n % 10) as u8
 }
 
-// Fills the bytes with the last decimal digits of a number, from the last to the first.
+// Fills the bytes with the last decimal digits of a number, from the last to the first. (c) By place, and not `bytes.iter_mut().rev()`: behind a
+// loop over an adapter of `iter_mut` a proof knows the slice's length and none of its elements (Rattle's LIBRARY.md, NOT_COVERED.md).
 fn put_digits(bytes: &mut [u8], n: u32)
     ensures { bytes.new ≡ digits (length bytes.old) n }
 {

@@ -1,12 +1,8 @@
--- `lines::places` meets its contract: which powers are reached is settled by comparing the number with each.
-use Rattle.std.proofs.Common.{arith}
-use Rattle.std.proofs.lemmas.Grind.{common_steps}
+-- `lines::places` meets its contract: what the logarithm promises is what the number of digits has to be.
+use Rattle.lines.proofs.DigitLaws.{places_of}
 use Rattle.lines.proofs.places.Goals as goal
 
 pub returns : goal.returns
-returns c = record {
-  few = grind (arith, common_steps);
-  held = grind (arith, common_steps);
-  most = grind (arith, common_steps);
-  some = omega arith;
-}
+returns c =
+    let log = c.checked_ilog10 in
+    rw c.unwrap_or.ensures (places_of c.args.n log.result log.ensures.none log.ensures.power_le log.ensures.next_power_gt log.ensures.bound)

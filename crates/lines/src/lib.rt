@@ -12,6 +12,8 @@ use meaning::{Label, Step};
 use std::marker::Model;
 
 // A line's text: what was written of it so far. For its callers it is the list of these bytes.
+// (a) It is written by hand, and not by `write!`: by its contract a `write!` may fail, also into std's text of fixed memory, and a line is
+// promised whole.
 #[derive(Drop)]
 pub struct Line {
     bytes: [u8; Line::MOST_BYTES],

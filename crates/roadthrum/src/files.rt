@@ -8,6 +8,7 @@ use std::{fs, io};
 
 // Reads until the buffer is full or the file ends, and tells how many bytes it put at the buffer's beginning. Bytes may arrive in pieces; a
 // folder can be opened, and its first read fails.
+// (a) A loop over `read`: what std has to read up to a file's end, `read_to_end`, allocates, and memory is fixed here.
 fn fill(open: &mut impl Read, buffer: &mut [u8]) -> io::Result<usize>
     ensures { IfOk result (λ n. n ≤ length buffer.new) }
 {

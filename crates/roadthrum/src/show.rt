@@ -19,6 +19,7 @@ use std::io;
 const ROOM: usize = 64 * Step::MOST;
 
 // Prints the lines of the rows that stand in `rows` one behind the other, each of as many list positions as there are offsets.
+// (a) By place, and not by `chunks_exact`: the edit lines/row-from-the-first needs that `lines` picks the row out of all rows.
 fn print_lines(
     out: &impl Print,
     index: &[u8],
@@ -72,8 +73,8 @@ fn note_unknown(err: &impl Print, text: &[u8], unknown: Option<u8>) -> Result<()
     Ok(())
 }
 
-// Prints all evidence, page by page, and answers how many rows there were. It is a loop and no iterator over pages, since all pages are written to
-// the one lent buffer.
+// Prints all evidence, page by page, and answers how many rows there were.
+// (a) A loop and no iterator over pages: memory is fixed, so that all pages are written to the one buffer, which an item can't hold.
 pub fn show(out: &impl Print, err: &impl Print, input: Input) -> Result<u64, Error> {
     let mut rows = [0u32; ROOM];
     let mut place = 0;

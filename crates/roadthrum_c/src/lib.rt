@@ -9,7 +9,8 @@ ghost use Rattle.roadthrum_c.specs.Boundary.{numbers as Boundary·numbers, figur
 
 use meaning::{Figures, Page, Refusal};
 
-// What a call for rows gave, as five numbers.
+// What a call for rows gave, as five numbers. (a) The rows by `as`, which loses nothing below the bound that is asked: C has 32 bits for them,
+// and `try_from` would make a failure that can't be.
 fn numbers(outcome: Result<Page, Refusal>) -> [u32; 5]
     requires { (page_of outcome).rows ≤ most_labels }
     ensures { result ≡ Boundary·numbers outcome }

@@ -27,7 +27,7 @@ impl PlanStep {
 }
 
 // What the engine needs of a question: its steps in text order, how many there are, and which one is returned. Entries past the last step are
-// blank.
+// blank: memory is fixed, so that the steps are an array with their number beside it.
 #[derive(Clone, Copy)]
 pub struct Plan {
     pub steps: [PlanStep; Step::MOST],

@@ -10,7 +10,7 @@ use order::Walk;
 use turn::Turn;
 
 // Whether two labels share a number or cross, or 65 are nested. The table is here: of its places the first `depth` hold the open records, outermost first,
-// and are lent to each turn.
+// and are lent to each turn. (Memory is fixed: an array with their number beside it.) A turn may stay at its label, so that nothing counts the turns.
 pub fn nesting_wrong(contents: Contents) -> bool
     requires { Ordered (lists_of contents.index.now) }
     ensures { Decides (WrongNesting contents.entry.index.now) result }

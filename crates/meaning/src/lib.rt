@@ -27,6 +27,8 @@ impl Page {
     // What numbers tell in place of a step's where no step's name is unknown.
     pub const NO_STEP: u32 = 32;
 
+    // What holds a constant to the number that the promises speak of is a function for each: the edits `no-step-31`, `limit-of-33-steps` and
+    // `most-..` change a constant or a limit, and each has to be refused for its own.
     pub fn no_step() -> u32
         ensures { result ≡ no_step }
     {
@@ -172,7 +174,8 @@ impl Step {
     }
 }
 
-// A question that was read: its steps in text order, how many there are, and which one is returned. Entries past the last step are blank.
+// A question that was read: its steps in text order, how many there are, and which one is returned. Entries past the last step are blank: memory
+// is fixed, so that the steps are an array with their number beside it.
 #[derive(Clone, Copy)]
 pub struct Question {
     pub steps: [Step; Step::MOST],

@@ -14,7 +14,7 @@ use tournament::Tournament;
 #[derive(Drop)]
 pub struct Walk<'a> {
     index: &'a [u8],
-    // The place in the index of each list's next label: of no account for no list.
+    // The place in the index of each list's next label: of no account for no list, since memory is fixed.
     places: [usize; Index::MOST_TAGS],
     // The lists' keys there.
     keys: Tournament,

@@ -17,6 +17,7 @@ pub fn read(text: &[u8]) -> Result<Question, Refusal>
         return Err(Refusal::TooLong);
     }
     let draft = read_path(text, None, 0, Draft::new()).or(Err(Refusal::NotFollowing))?; // No path stands there.
+    // What is tested has a name, here and below, so that an edit that changes it is refused at the fact and not for a name that is gone.
     let rest = text.len() - usize::from(draft.at);
     let goes_on = rest > 0;
     if goes_on {

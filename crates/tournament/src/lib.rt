@@ -14,10 +14,12 @@ const NODES: usize = 2 * Index::MOST_TAGS;
 // Where the least number stands.
 const ROOT: usize = 1;
 
-// What stands for none. Below it there are MOST_TAGS numbers for each number of 32 bits.
+// What stands for none. Below it there are MOST_TAGS numbers for each number of 32 bits. It is a number and no `Option`, since it plays like any
+// other: each node compares two words, and would compare two pairs. (In a constant `as` widens, where `u64::from` can't be called.)
 pub const PAST: u64 = (u32::MAX as u64 + 1) * (Index::MOST_TAGS as u64);
 
 // A tournament of numbers. With m players they stand at nodes m to 2m - 1, and node i, from 1 to m - 1, holds the lesser of nodes 2i and 2i + 1.
+// Memory is fixed, so that the nodes are an array with the number of players beside it.
 #[derive(Drop)]
 pub struct Tournament {
     nodes: [u64; NODES],

@@ -75,7 +75,7 @@ pub fn judge(walk: &mut Walk<'_>, records: &[Open], coming: Option<Met>) -> Turn
     let inner = Open {
         start: met.start,
         end: met.end,
-        list: met.list as u32,
+        list: met.list as u32, // A list's number is below 256: `as` is proved to lose nothing.
     };
     Turn::Opened {
         inner,

@@ -48,7 +48,7 @@ fn digit(n: u32) -> u8
 }
 
 // Fills the bytes with the last decimal digits of a number, from the last to the first. (c) By place, and not `bytes.iter_mut().rev()`: behind a
-// loop over an adapter of `iter_mut` a proof knows the slice's length and none of its elements (Rattle's LIBRARY.md, NOT_COVERED.md).
+// loop over an adapter of `iter_mut` a proof knows the slice's length and none of its elements (Rattle's docs/NOT_COVERED.md).
 fn put_digits(bytes: &mut [u8], n: u32)
     ensures { bytes.new ≡ digits (length bytes.old) n }
 {
@@ -128,6 +128,7 @@ impl Line {
             if behind {
                 line.push(b' ');
             }
+            // No `usize::from` of a u32 is there, and `as` loses nothing.
             line.push_record(label::label_at(index, *offset, *i as usize));
         }
         line.push(b'\n');

@@ -26,6 +26,8 @@ fn start_from(returned: usize, place: usize) -> [usize; Step::MOST]
 }
 
 // Writes a part of the positions, all of it, to the buffer at `to`.
+// (c) The part is read by index, and not by `row.iter_mut().zip(part)`: behind a loop over an adapter of `iter_mut` a proof knows the row's length
+// and none of its numbers (Rattle's docs/NOT_COVERED.md, "Covered, and left open").
 fn put_row(out: &mut [u32], to: usize, part: &[usize])
     requires within { to + length part.now ≤ length out.old }
     requires small { (i : ℕ) → i < length part.now → at part.now i < most_labels }
@@ -48,6 +50,7 @@ fn last_page(plan: &Plan, rows: usize, unknown: Option<u8>) -> Page
     Page {
         rows,
         more: false,
+        // It fits, as a list has no more labels than a u32 can count: a conversion that may fail would have nothing to say.
         next: plan.steps[plan.returned].list.count as u32,
         unknown,
     }

@@ -49,11 +49,3 @@ impl<'a> LawfulDay<'a> {
         body_at(self.index, list)
     }
 }
-
-// The body of a name's list in an index that is known to be lawful.
-pub fn lookup<'a>(index: &'a [u8], name: &[u8]) -> &'a [u8]
-    requires { Lawful index.now }
-    ensures { result.now ≡ body_of index.now name.now }
-{
-    LawfulDay { index }.lookup(name)
-}

@@ -5,6 +5,6 @@ mod lawful;
 mod placed;
 pub mod rows;
 
-pub use lawful::{LawfulDay, lookup};
+pub use lawful::LawfulDay;
 pub use placed::Contents;
 pub use rows::Row;

@@ -1,14 +1,12 @@
 -- The plan of a tree over a lawful index: it fits, and agrees with the question of the tree.
 use Prim.Native.Nat.{ℕ, ◌+◌, ◌≤◌, ◌<◌}
 use native.Mathlib.Omega.{arith}
-use mathlib.Core.Path.{◌≡◌, refl, sym, ap, subst, subst₂, ◌∙◌}
+use mathlib.Core.Path.{◌≡◌, refl, sym, ap, subst, ◌∙◌}
 use mathlib.Core.Logic.{◌⊎◌, inl, inr, ◌≢◌, ⊎_elim}
 use mathlib.Core.List.{List}
 use lib.ListN.{set, replicate, get_or, length-set}
-use mathlib.Core.Bool.{Bool, true, false, not, true≢false, false≢true}
 use Rattle.std.specs.Prelude.{Option, Some, None}
-use Rattle.std.specs.Option.{is_some, unwrap_or}
-use Rattle.std.proofs.lemmas.List.{get_or-replicate, get_or_past}
+use Rattle.std.proofs.lemmas.List.{get_or-replicate, get_or_past, get_or-set_same, set-set}
 use lib.Seq.{ext_get_or}
 use Rattle.meaning.specs.declared.Label.{Label}
 use Rattle.meaning.specs.declared.Body.{Body}
@@ -139,31 +137,34 @@ module _ {b : List ℕ} {p : Path} {s : ℕ} {xs : List PlanStep} {unknown : Opt
   entry_on : (list : Body) → list ≡ list_of b (step_at p s).name → Column (s + 1) (drawn_step b p) (set xs s (record { hangs = hangs; list = list }))
   entry_on list e = column_on (drawn_step b p) s (record { hangs = hangs; list = list }) xs w.steps_are m (cc (h, e))
 
-  -- One step more, whose name is known.
-  pub draw_known : (list : Body) → Lawful b → Finds b (step_at p s).name (Some list) → Drawing b p (s + 1) (set xs s (record { hangs = hangs; list = list })) unknown
-  draw_known list law found = record {
+  -- The step's entry when what it hangs from was written: its list is as before, a blank one.
+  abbrev hung : PlanStep
+  hung = record { hangs = hangs; list = (get_or xs s blank).list }
+
+  -- One step more, whose name is unknown: its list stays blank.
+  pub draw_unknown : (first : Option ℕ) → Finds b (step_at p s).name None → FirstOf unknown s first → Drawing b p (s + 1) (set xs s hung) first
+  draw_unknown first no_row f = record {
+    s_le = omega arith;
+    steps_are = entry_on hung.list (ap (λ (x : PlanStep). x.list) (w.steps_are.blank s (omega arith)) ∙ sym (unknown_list b (step_at p s).name no_row));
+    told = first_here w.told no_row f;
+  }
+
+  -- One step more, whose name is known, with both written at once.
+  known : (list : Body) → Lawful b → Finds b (step_at p s).name (Some list) → Drawing b p (s + 1) (set xs s (record { hangs = hangs; list = list })) unknown
+  known list law found = record {
     s_le = omega arith;
     steps_are = entry_on list (known_list b law (step_at p s).name list found);
     told = first_on (s + 1) refl w.told (λ no_row. no_row found.0 found.1);
   }
 
-  -- One step more, whose name is unknown.
-  pub draw_unknown : (list : Body) (first : Option ℕ) → Finds b (step_at p s).name None → list ≡ list_in None → FirstOf unknown s first
-      → Drawing b p (s + 1) (set xs s (record { hangs = hangs; list = list })) first
-  draw_unknown list first no_row none f = record {
-    s_le = omega arith;
-    steps_are = entry_on list (none ∙ sym (unknown_list b (step_at p s).name no_row));
-    told = first_here w.told no_row f;
-  }
-
-  -- One step more, by what was found and by whether that was told.
-  pub draw_turn : (found : Option Body) (told : Bool) (list : Body) (first : Option ℕ) → Lawful b → Finds b (step_at p s).name found → is_some found ≡ not told → list ≡ unwrap_or found (list_in None)
-      → ((told ≡ true) × FirstOf unknown s first) ⊎ ((told ≡ false) × (first ≡ unknown)) → Drawing b p (s + 1) (set xs s (record { hangs = hangs; list = list })) first
-  draw_turn (Some found) told list first law f e i (inl (is, t)) = absurd (true≢false (e ∙ ap not is))
-  draw_turn (Some found) told list first law f e i (inr (is, t)) =
-      subst₂ (λ (x : Body) (u : Option ℕ). Drawing b p (s + 1) (set xs s (record { hangs = hangs; list = x })) u) (sym i) (sym t) (draw_known found law f)
-  draw_turn None told list first law f e i (inl (is, t)) = draw_unknown list first f i t
-  draw_turn None told list first law f e i (inr (is, t)) = absurd (false≢true (e ∙ ap not is))
+  -- One step more, whose name is known: the list is written after what it hangs from.
+  pub draw_known : (list : Body) → Lawful b → Finds b (step_at p s).name (Some list)
+      → Drawing b p (s + 1) (set (set xs s hung) s (record { hangs = (get_or (set xs s hung) s blank).hangs; list = list })) unknown
+  draw_known list law found =
+      let kept : (get_or (set xs s hung) s blank).hangs ≡ hangs = ap (λ (x : PlanStep). x.hangs) (get_or-set_same xs s hung blank (omega (arith, w.steps_are.long))) in
+      let once : set (set xs s hung) s (record { hangs = (get_or (set xs s hung) s blank).hangs; list = list }) ≡ set xs s (record { hangs = hangs; list = list }) =
+      set-set xs s hung (record { hangs = (get_or (set xs s hung) s blank).hangs; list = list }) ∙ ap (λ (g : Option ℕ). set xs s (record { hangs = g; list = list })) kept in
+      subst (λ (ys : List PlanStep). Drawing b p (s + 1) ys unknown) (sym once) (known list law found)
 
 -- All steps are in the array.
 pub draw_end : {b : List ℕ} {p : Path} {s count returned : ℕ} {xs : List PlanStep} {unknown : Option ℕ} → Drawing b p s xs unknown → count ≡ steps p → count ≤ s → returned ≡ returned_step p

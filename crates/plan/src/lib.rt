@@ -17,16 +17,13 @@ pub fn draw(day: LawfulDay, text: &[u8], question: &Question) -> (Plan, Option<u
     let mut unknown = None;
     for s in 0..question.count {
         let step = question.steps[s];
-        let found = day.find(question::name_of(text, step));
-        if found.is_none() {
+        steps[s].hangs = step.hangs;
+        let Some(list) = day.find(question::name_of(text, step)) else {
             // A step's number is below 32, so that nothing is lost.
             unknown = unknown.or(Some(s as u8));
-        }
-        let list = found.unwrap_or(PlanStep::BLANK.list);
-        steps[s] = PlanStep {
-            hangs: step.hangs,
-            list,
+            continue;
         };
+        steps[s].list = list;
     }
     let plan = Plan {
         steps,

@@ -1,11 +1,10 @@
 -- `plan::draw` meets its contract: a turn ends in one of two ways, with a name that is known or unknown.
-use Rattle.std.proofs.Common.{◌<◌, refl, ap, ◌∙◌, inl, inr, arith}
+use Rattle.std.proofs.Common.{◌<◌, refl, ap, ◌∙◌, arith}
 use Rattle.meaning.specs.declared.Question.{Question}
 use Rattle.meaning.specs.Notation.{steps}
 use Rattle.plan.proofs.Telling.{told_first}
-use Rattle.plan.proofs.Drawing.{draw_begin, draw_turn, draw_end, asked_step, found_as}
+use Rattle.plan.proofs.Drawing.{draw_begin, draw_known, draw_unknown, draw_end, asked_step, found_as}
 use Rattle.plan.proofs.draw.Goals as goal
-use Rattle.plan.proofs.draw.Goals.{then-is_none, else-is_none}
 
 pub loop-s-init : goal.loop-s-init
 loop-s-init c = λ a. draw_begin _ _
@@ -15,16 +14,19 @@ name_of-requires c =
     let a = c.requires in
     (asked_step c.args.text.now c.args.question.now a c.loop-s.s (omega (arith, c.loop-s-test.true, ap (λ (q : Question). q.count) a.is))).within
 
+pub loop-s-preserved-in_default : goal.loop-s-preserved-in_default
+loop-s-preserved-in_default c = λ a.
+    let lt : c.loop-s.s < steps a.writes.tree = omega (arith, c.loop-s-test.true, ap (λ (q : Question). q.count) a.is) in
+    let stored = asked_step c.args.text.now c.args.question.now a c.loop-s.s lt in
+    draw_unknown (c.loop-s.invariant a) lt (omega (arith, a.few)) stored.hangs _
+    (found_as _ (c.name_of.ensures ∙ stored.name) c.in_default.is c.find.ensures) (told_first refl c.or-unknown.ensures (omega arith))
+
 pub loop-s-preserved : goal.loop-s-preserved
 loop-s-preserved c = λ a.
     let lt : c.loop-s.s < steps a.writes.tree = omega (arith, c.loop-s-test.true, ap (λ (q : Question). q.count) a.is) in
     let stored = asked_step c.args.text.now c.args.question.now a c.loop-s.s lt in
-    draw_turn (c.loop-s.invariant a) lt (omega (arith, a.few)) stored.hangs _ c.is_none.result _ _ c.args.day.lawful
-    (found_as _ (c.name_of.ensures ∙ stored.name) refl c.find-found.ensures) c.is_none.ensures c.unwrap_or-list.ensures
-    (elim c.if-is_none.branch [
-      | then-is_none w ↦ inl (w.if-is_none.true, told_first w.unknown-is w.or-unknown.ensures (omega arith))
-      | else-is_none w ↦ inr (w.if-is_none.false, w.unknown-is)
-    ])
+    draw_known (c.loop-s.invariant a) lt (omega (arith, a.few)) stored.hangs c.in-Some.list c.args.day.lawful
+    (found_as _ (c.name_of.ensures ∙ stored.name) c.in-Some.is c.find.ensures)
 
 pub returns : goal.returns
 returns c =

@@ -9,6 +9,8 @@ use cursors::Plan;
 use std::ops::Range;
 
 // A kind of row: the part of the cursors that it has. `first` and `width` go by the number of steps and the returned step.
+// The laws speak of all questions, not of one plan: both kinds are parts of every question, a call is proved once for whatever question it is asked,
+// and no caller asks for another part.
 pub trait Row {
     // The first step of a row, and how many steps it has.
     ghost first: { ℕ → ℕ → ℕ };

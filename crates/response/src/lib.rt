@@ -9,7 +9,6 @@ use meaning::{Page, Refusal};
 use pages::{Row, write_page};
 
 // What both calls for rows do: check the index, read the question, find each step's list or that its name has none, and write a page of rows.
-#[tactic(auto, using(crate::proofs::Responding::planned_of, crate::proofs::Responding::refuse_index, crate::proofs::Responding::refuse_text, crate::proofs::Responding::asks_of))]
 pub fn respond<R: Row>(
     index: &[u8],
     text: &[u8],

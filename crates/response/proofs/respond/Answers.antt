@@ -1,7 +1,7 @@
 -- `response::respond` meets its contract: each part's promise is a part of the call's.
 use Rattle.std.proofs.Common.{rules}
 use Rattle.std.proofs.lemmas.Result.{err_from_is_err_and}
-use Rattle.response.proofs.Responding.{refuse_index, refuse_text, clear_of, planned_of, give}
+use Rattle.response.proofs.Responding.{asks_of, refuse_index, refuse_text, clear_of, planned_of, give}
 use Rattle.response.proofs.respond.Goals as goal
 
 pub returns-in_err-check : goal.returns-in_err-check
@@ -9,6 +9,9 @@ returns-in_err-check g c = let p = err_from_is_err_and c.from_residual.result c.
 
 pub returns-in_err-question : goal.returns-in_err-question
 returns-in_err-question g c = let p = err_from_is_err_and c.from_residual-in_err-question.result c.from_residual-in_err-question.ensures.1 in rw (p.1, p.2) (search (rules, refuse_text))
+
+pub draw-unknown-requires : goal.draw-unknown-requires
+draw-unknown-requires g c = search (rules, asks_of)
 
 pub write_page-requires : goal.write_page-requires
 write_page-requires g c = planned_of (search rules) c.draw-unknown.ensures

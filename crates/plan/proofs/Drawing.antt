@@ -22,7 +22,7 @@ use Rattle.meaning.proofs.Decide.{or_not, lt_decides}
 use Rattle.meaning.specs.Fit.{Fit}
 use Rattle.meaning.proofs.Laws.Day.{lawful_fit, list_small}
 use Rattle.meaning.proofs.Laws.Notation.{one_tree}
-use Rattle.meaning.proofs.Laws.Found.{known_list, unknown_list, list_in, first_on, first_one}
+use Rattle.meaning.proofs.Laws.Found.{known_list, unknown_list, first_on, first_one}
 use Rattle.meaning.proofs.Laws.Few.{lawful_small}
 use Rattle.contents.proofs.FindLaws.{list_within}
 use Rattle.question.specs.Questions.{hook_number, kept}

@@ -4,6 +4,7 @@ ghost use Rattle.std.specs.Prelude.{ℕ, ◌*◌, ◌<◌, ◌≡◌, length};
 ghost use Rattle.meaning.specs.Limits.{most_steps};
 ghost use Rattle.meaning.specs.Bytes.{at};
 ghost use Rattle.cursors.specs.Plan.{planned_step};
+ghost use Rattle.plan.specs.Drawn.{Asks};
 ghost use Rattle.roadthrum.specs.PageRows.{RowAt, PageGiven, Tells};
 
 use crate::error::Error;
@@ -11,7 +12,7 @@ use crate::files::Input;
 use contents::LawfulDay;
 use cursors::Plan;
 use lines::Line;
-use meaning::{Page, Step};
+use meaning::{Page, Question, Step};
 use plan::draw;
 use std::io;
 
@@ -45,32 +46,36 @@ fn offsets_of(plan: &Plan) -> [usize; Step::MOST]
     plan.steps.map(|step| step.list.offset)
 }
 
-// Prints a line for each row of a page that the evidence call gave.
-fn print_rows(out: &impl Print, input: Input, rows: &[u32], page: Page) -> Result<(), Error>
-    requires { PageGiven input.index.now input.text.now rows.now page }
+// Prints a line for each row of a page that the evidence call gave, of the question that stands in the text.
+fn print_rows(
+    out: &impl Print,
+    input: Input,
+    question: &Question,
+    rows: &[u32],
+    page: Page,
+) -> io::Result<()>
+    requires given { PageGiven input.index.now input.text.now rows.now page }
+    requires asked { Asks input.text.now question.now }
 {
-    let question = question::read(input.text)?;
     let day = LawfulDay { index: input.index };
-    let (plan, _) = draw(day, input.text, &question);
+    let (plan, _) = draw(day, input.text, question);
     let offsets = offsets_of(&plan);
-    print_lines(out, input.index, &offsets[..plan.count], rows, page.rows)?;
-    Ok(())
+    print_lines(out, input.index, &offsets[..plan.count], rows, page.rows)
 }
 
 // Says on standard error, if a step's name has no row in the index, which step it is, counted from 1, and its name as it stands in the text.
 // Whoever misspelled it sees why there are no records. Where nothing can be said there, it is left unsaid.
-fn note_unknown(err: &impl Print, text: &[u8], unknown: Option<u8>) -> Result<(), Error>
-    requires { Tells text.now unknown }
+fn note_unknown(err: &impl Print, text: &[u8], question: &Question, unknown: Option<u8>)
+    requires told { Tells text.now unknown }
+    requires asked { Asks text.now question.now }
 {
     if let Some(step) = unknown {
-        let question = question::read(text)?;
         let name = question::name_of(text, question.steps[usize::from(step)]);
         let number = u32::from(step) + 1;
         let _ = print!(err; "note: step {number}: no record of this day is called \"");
         let _ = err.write_all(name);
         let _ = println!(err; "\"");
     }
-    Ok(())
 }
 
 // Prints all evidence, page by page, and answers how many rows there were.
@@ -81,10 +86,11 @@ pub fn show(out: &impl Print, err: &impl Print, input: Input) -> Result<u64, Err
     let mut total = 0;
     loop {
         let page = answer::evidence(input.index, input.text, place, &mut rows)?;
-        print_rows(out, input, &rows, page)?;
-        total += page.rows as u64;
+        let question = question::read(input.text)?;
+        print_rows(out, input, &question, &rows, page)?;
+        total += page.rows as u64; // There is no `From<usize>` for `u64`; on 64 bits `as` loses nothing.
         if !page.more {
-            note_unknown(err, input.text, page.unknown)?;
+            note_unknown(err, input.text, &question, page.unknown);
             return Ok(total);
         }
         place = page.next;

@@ -2,15 +2,14 @@
 use Prim.Native.Nat.{ℕ}
 use mathlib.Core.Path.{◌≡◌, sym, ap, ◌∙◌}
 use mathlib.Core.List.{List}
-use Rattle.std.specs.Prelude.{Result, Ok, Err, refl}
+use Rattle.std.specs.Prelude.{Result}
 use Rattle.meaning.specs.declared.Page.{Page}
-use Rattle.meaning.specs.declared.Figures.{Figures}
 use Rattle.meaning.specs.declared.refusal.Refusal.{Refusal}
-use Rattle.meaning.specs.Numbers as table
+use Rattle.meaning.specs.Numbers.{figure_numbers}
 use Rattle.meaning.specs.Promises.{Answered, Shown, Tabled}
 use Rattle.meaning.proofs.Laws.Promise.{answered_fixed, shown_fixed}
 use Rattle.meaning.proofs.Laws.Tabled.{tabled_fixed}
-use Rattle.roadthrum_c.specs.Boundary.{numbers, figure_numbers, PassedOn}
+use Rattle.roadthrum_c.specs.Boundary.{numbers, PassedOn}
 
 -- Outcomes that are equal are passed on by equal numbers.
 numbers_fixed : {A : Type 0} {numbers_of : A → List ℕ} {P Q : A → Type 0} {v w : List ℕ} (p : PassedOn numbers_of P v) (q : PassedOn numbers_of Q w) → p.outcome ≡ q.outcome → v ≡ w
@@ -32,12 +31,3 @@ evidence_fixed {b = b} {text = text} {entry = entry} {place = place} = passed_fi
 
 pub waits_fixed : {b times v w : List ℕ} → PassedOn figure_numbers (Tabled b times) v → PassedOn figure_numbers (Tabled b times) w → v ≡ w
 waits_fixed p q = numbers_fixed p q (tabled_fixed p.promised q.promised)
-
--- The numbers that C sees are those of the refusal table's laws.
-pub numbers_are : (r : Result Page Refusal) → numbers r ≡ table.numbers r
-numbers_are (Ok p) = refl
-numbers_are (Err e) = refl
-
-pub figure_numbers_are : (r : Result Figures Refusal) → figure_numbers r ≡ table.figure_numbers r
-figure_numbers_are (Ok f) = refl
-figure_numbers_are (Err e) = refl

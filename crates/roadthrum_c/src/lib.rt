@@ -3,9 +3,9 @@
 
 ghost use Rattle.std.specs.Prelude.{◌≤◌, ◌≡◌};
 ghost use Rattle.meaning.specs.Limits.{most_labels};
-ghost use Rattle.meaning.specs.Numbers.{page_of};
+ghost use Rattle.meaning.specs.Numbers.{page_of, figure_numbers};
 ghost use Rattle.meaning.specs.Promises.{Checked, Answered, Shown, Tabled};
-ghost use Rattle.roadthrum_c.specs.Boundary.{numbers as Boundary·numbers, figure_numbers, PassedOn};
+ghost use Rattle.roadthrum_c.specs.Boundary.{numbers as Boundary·numbers, PassedOn};
 
 use meaning::{Figures, Page, Refusal};
 
@@ -17,7 +17,7 @@ fn numbers(outcome: Result<Page, Refusal>) -> [u32; 5]
 {
     match outcome {
         Ok(page) => [
-            0,
+            0, // A page is no refusal.
             page.rows as u32,
             u32::from(page.more),
             page.next,

@@ -2,11 +2,17 @@
 use Rattle.std.proofs.Common.{◌<◌, arith, rules}
 use Rattle.std.proofs.lemmas.Bool.{not-false}
 use Rattle.meaning.proofs.Laws.Few.{few_rows}
-use Rattle.roadthrum.proofs.Accepted.{accepted, tells, onward}
+use Rattle.roadthrum.proofs.Accepted.{accepted, asks, tells, onward}
 use Rattle.roadthrum.proofs.show.show.Goals as goal
 
-pub note_unknown-requires : goal.note_unknown-requires
-note_unknown-requires g c = tells _ _ _ _ _ _ (accepted _ _ _ _ _ _ c.in_ok-page.ensures)
+pub print_rows-requires-clause-asked : goal.print_rows-requires-clause-asked
+print_rows-requires-clause-asked g c = asks _ _ c.in_ok-question.ensures
+
+pub note_unknown-requires-clause-asked : goal.note_unknown-requires-clause-asked
+note_unknown-requires-clause-asked g c = asks _ _ c.in_ok-question.ensures
+
+pub note_unknown-requires-clause-told : goal.note_unknown-requires-clause-told
+note_unknown-requires-clause-told g c = tells _ _ _ _ _ _ (accepted _ _ _ _ _ _ c.in_ok-page.ensures)
 
 pub loop-page-smaller : goal.loop-page-smaller
 loop-page-smaller g c =

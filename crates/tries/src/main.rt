@@ -108,23 +108,30 @@ fn read(rt: &impl Print, text: &[u8]) -> io::Result<()> {
 // Writes the number that a call gives.
 fn refusal(rt: &impl Print, index: &[u8], text: &[u8]) -> io::Result<()> {
     let mut out = [0u32; 24];
-    println!(rt; "refused {}", number(answer::answer(index, text, 0, &mut out)))
+    println!(rt;
+        "refused {}",
+        number(answer::answer(index, text, 0, &mut out))
+    )
 }
 
 // The table's questions to the small day, and places at which no record is left.
 fn questions_to(rt: &impl Print, day: &[u8]) -> io::Result<()> {
-    ask_each(rt, day, &[
-        "//call[//cancel]//board",
-        "//call[//board]",
-        "//call[//cancel]",
-        "//call//call//call",
-        "//call//cancel//board",
-        "//call[//cancel][//cancel]",
-        "//call[//call[//cancel]]//board",
-        "//lobby",
-        // a name in a bracket that no row has
-        "//call[//cancle]",
-    ])?;
+    ask_each(
+        rt,
+        day,
+        &[
+            "//call[//cancel]//board",
+            "//call[//board]",
+            "//call[//cancel]",
+            "//call//call//call",
+            "//call//cancel//board",
+            "//call[//cancel][//cancel]",
+            "//call[//call[//cancel]]//board",
+            "//lobby",
+            // a name in a bracket that no row has
+            "//call[//cancle]",
+        ],
+    )?;
     // from place 9 on there is none, and the next place is the number of calls
     ask(rt, day, "//call[//board]", 9)?;
     // a place of 4,294,967,295
@@ -157,7 +164,11 @@ fn other_days(rt: &impl Print) -> io::Result<()> {
     ];
     ask_each(rt, ARTICLE, &article)?;
     ask_each(rt, OTHER_ARTICLE, &article)?;
-    ask_each(rt, LIBRARY, &["//book[//author]//title", "//library//author"])
+    ask_each(
+        rt,
+        LIBRARY,
+        &["//book[//author]//title", "//library//author"],
+    )
 }
 
 // Indexes that are refused, and that are not.

@@ -4,11 +4,7 @@ use native.Mathlib.Omega.{arith}
 use mathlib.Core.Path.{◌≡◌, sym, ap, subst, ◌∙◌}
 use mathlib.Core.List.{List}
 use lib.ListN.{length}
-use Rattle.std.specs.Prelude.{Option, Some}
-use Rattle.reader.specs.declared.Reader.{Reader}
-use Rattle.reader.specs.Reading.{Gives}
-use Rattle.reader.proofs.ReaderLaws.{Says, next_says}
-use Rattle.meaning.specs.Day.{label_at}
+use Rattle.std.specs.Prelude.{Option}
 use Rattle.meaning.specs.declared.Figures.{Figures}
 use Rattle.meaning.specs.declared.Label.{Label}
 use Rattle.meaning.specs.Bytes.{at}
@@ -34,18 +30,6 @@ pub record Turning (calls boards cancels times : List ℕ) (f : Figures) (p q i 
   pub total : f.total ≤ i * 4_294_967_295
   pub boards_passed : Passed boards (in_body calls) p i
   pub cancels_passed : Passed cancels (in_body calls) q i
-
--- The reader of the calls hands out a call: it is the one at the reader's place, and the reader is one on.
-pub record Read (calls : List ℕ) (r then : Reader) (call : Label) : Type 0 where
-  pub within : r.at < length calls / 8
-  pub call_is : call ≡ label_at calls 0 r.at
-  pub same : then.body.now ≡ calls
-  pub on : then.at ≡ r.at + 1
-
-pub read_by : (calls : List ℕ) (r then : Reader) (call : Label) → Gives r (Some call) then → r.body.now ≡ calls → Read calls r then call
-read_by calls r then call g same =
-    let says : Says calls r.at (Some call) = subst (λ (b : List ℕ). Says b r.at (Some call)) same (subst (Says r.body.now r.at) (sym g.0) (next_says r.body.now r.at)) in
-    record { within = says.0; call_is = says.1; same = ap (λ (x : Reader). x.body.now) g.1 ∙ same; on = ap (λ (x : Reader). x.at) g.1 }
 
 passed_none : (body : List ℕ) (calls : Tagged) → Passed body calls 0 0
 passed_none body calls = record { within = omega arith; before = λ j k l. absurd (omega arith) }

@@ -1,2 +1,3 @@
 -- What the functions of the program ask of each other.
 pub mod PageRows
+pub mod Stopping

@@ -18,12 +18,22 @@ impl Error {
 }
 
 impl From<Refusal> for Error {
+    ghost use Rattle.std.specs.Prelude.{◌≡◌};
+    ghost use Rattle.roadthrum.specs.declared.error.Error.TheVariants.{Refused};
+
+    ghost from_gives = { λ refusal error. error ≡ Refused refusal };
+
     fn from(refusal: Refusal) -> Error {
         Error::Refused(refusal)
     }
 }
 
 impl From<io::Error> for Error {
+    ghost use Rattle.std.specs.Prelude.{◌≡◌};
+    ghost use Rattle.roadthrum.specs.declared.error.Error.TheVariants.{Unprintable};
+
+    ghost from_gives = { λ cause error. error ≡ Unprintable cause };
+
     fn from(error: io::Error) -> Error {
         Error::Unprintable(error)
     }

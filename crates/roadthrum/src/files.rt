@@ -45,12 +45,15 @@ impl<'a> Input<'a> {
     // Most bytes of a `day.idx` that is read.
     pub const MOST_INDEX_BYTES: usize = 65_536;
 
-    // Reads both, each into the buffer that is lent for it.
+    // Reads both, each into the buffer that is lent for it. A day that is read is not too long.
     pub fn read(
         rt: &impl Files,
         index: &'a mut [u8],
         text: &'a mut [u8],
-    ) -> Result<Input<'a>, Error> {
+    ) -> Result<Input<'a>, Error>
+        ensures index { IfOk result (λ input. length input.index.now ≤ 65536) }
+        ensures text { IfOk result (λ input. length input.text.now ≤ length text.old) }
+    {
         let index = read_file(rt, "day.idx", index).map_err(|_| Error::Unreadable)?;
         let text = read_file(rt, "query.txt", text).map_err(|_| Error::Unreadable)?;
         if Input::MOST_INDEX_BYTES < index.len() {

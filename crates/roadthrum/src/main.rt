@@ -11,8 +11,8 @@ use meaning::Question;
 use show::show;
 use std::io;
 
-// Prints all evidence, and answers how many rows there were.
-fn run(rt: &HostRuntime) -> Result<u64, Error> {
+// Prints all evidence.
+fn run(rt: &HostRuntime) -> Result<(), Error> {
     // One byte more than is lawful, so that what is too long is seen to be. Of a question that is too long the rest is of no account.
     let mut index = [0u8; Input::MOST_INDEX_BYTES + 1];
     let mut text = [0u8; Question::MOST_BYTES + 1];
@@ -23,7 +23,7 @@ fn run(rt: &HostRuntime) -> Result<u64, Error> {
 // Only what can't be printed on standard output makes it fail.
 fn main(rt: HostRuntime) -> io::Result<()> {
     match run(&rt) {
-        Ok(total) => println!(rt; "done {total}"),
+        Ok(()) => Ok(()),
         Err(Error::Unprintable(error)) => Err(error),
         Err(error) => println!(rt; "{error}"),
     }

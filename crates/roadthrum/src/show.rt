@@ -1,11 +1,12 @@
 // What the program prints: on `out`, which is the standard output, and a note on `err`, the standard error. A call that can't print on `out`
 // gives up with the error.
-ghost use Rattle.std.specs.Prelude.{ℕ, ◌*◌, ◌<◌, ◌≡◌, length};
+ghost use Rattle.std.specs.Prelude.{ℕ, ◌*◌, ◌<◌, ◌≡◌, length, IfErr};
 ghost use Rattle.meaning.specs.Limits.{most_steps};
 ghost use Rattle.meaning.specs.Bytes.{at};
 ghost use Rattle.cursors.specs.Plan.{planned_step};
 ghost use Rattle.plan.specs.Drawn.{Asks};
 ghost use Rattle.roadthrum.specs.PageRows.{RowAt, PageGiven, Tells};
+ghost use Rattle.roadthrum.specs.Stopping.{Stops};
 
 use crate::error::Error;
 use crate::files::Input;
@@ -78,9 +79,11 @@ fn note_unknown(err: &impl Print, text: &[u8], question: &Question, unknown: Opt
     }
 }
 
-// Prints all evidence, page by page, and answers how many rows there were.
+// Prints all evidence, page by page, and how many rows there were.
 // (a) A loop and no iterator over pages: memory is fixed, so that all pages are written to the one buffer, which an item can't hold.
-pub fn show(out: &impl Print, err: &impl Print, input: Input) -> Result<u64, Error> {
+pub fn show(out: &impl Print, err: &impl Print, input: Input) -> Result<(), Error>
+    ensures { IfErr result (Stops input.entry.index.now input.entry.text.now) }
+{
     let mut rows = [0u32; ROOM];
     let mut place = 0;
     let mut total = 0;
@@ -91,7 +94,7 @@ pub fn show(out: &impl Print, err: &impl Print, input: Input) -> Result<u64, Err
         total += page.rows as u64; // There is no `From<usize>` for `u64`; on 64 bits `as` loses nothing.
         if !page.more {
             note_unknown(err, input.text, &question, page.unknown);
-            return Ok(total);
+            return Ok(println!(out; "done {total}")?);
         }
         place = page.next;
     }

@@ -3,7 +3,7 @@
 use Prim.Native.Nat.{ℕ, zero, suc, ◌+◌, ◌-◌, ◌*◌, ◌≤◌, ◌<◌}
 use native.Mathlib.Omega.{arith}
 use mathlib.Core.Path.{◌≡◌, refl, ap, ◌∙◌}
-use mathlib.Core.Logic.{⊎_elim}
+use mathlib.Core.Logic.{◌⊎◌, inl, inr}
 use mathlib.Core.Bool.{true, false}
 use mathlib.Core.List.{List, []}
 use lib.Dec.{leb}
@@ -19,6 +19,7 @@ use Rattle.meaning.specs.declared.Label.{Label}
 use Rattle.meaning.proofs.Laws.Bytes.{label_part}
 use Rattle.meaning.proofs.Laws.Label.{no_later}
 use Rattle.label.specs.Started.{Ascends, Between, Started}
+use Rattle.label.proofs.Searching.{settled, widen, settle_up, settle_down}
 
 -- A chunk by its number.
 chunk_at : (count : ℕ) (s : List ℕ) (i : ℕ) (d : List ℕ) → i < count → get_or (first_chunks 8 count s) i d ≡ take 8 (drop (8 * i) s)
@@ -45,22 +46,18 @@ module _ (b : List ℕ) (at n v low high : ℕ) (ascends : Ascends b at n) (w : 
         IsPartitionedBy-leb (λ c. u32_at c 0) chunks v
         (λ i j d ij jl. omega (arith, begins i d (omega arith), begins j d (omega arith), no_later (label_at b at) n ascends (low + i) (low + j) (omega arith) (omega (arith, w.within, w.ordered))))
 
-    -- Where r of them do, `low` and r labels of the body do.
+    -- Where r of them do, `low` and r labels of the body do: the last of these and the one behind them settle all others.
     pub chunks_settle : (r : ℕ) → r ≤ length chunks → IsPartitionPoint (λ c. leb (u32_at c 0) v ≡ true) (λ c. leb (u32_at c 0) v ≡ false) chunks r → Started b at n v (low + r)
-    chunks_settle r within (yes_before, no_behind) = record { within = omega (arith, w.within, w.ordered); first = first; rest = rest }
+    chunks_settle r within (yes_before, no_behind) = settled b at n v (down (cases_lt r count)) (omega arith)
       where
-        first : (i : ℕ) → i < low + r → (label_at b at i).start ≤ v
-        first i l = ⊎_elim (w.first i) left (cases_lt i low)
-          where
-            left : low ≤ i → (label_at b at i).start ≤ v
-            left h =
-                let k : low + (i - low) ≡ i = omega arith in
-                omega (arith, leb-true _ _ (yes_before (i - low) [] (omega arith) (omega arith)), begins (i - low) [] (omega arith), ap (λ (j : ℕ). (label_at b at j).start) k)
+        up : (r < 1) ⊎ (1 ≤ r) → Between b at n v (low + r) high
+        up (inl none) = widen b at n v w (low + r) high (omega arith) (omega arith) w.within
+        up (inr some) =
+            settle_up b at n v ascends w (low + (r - 1)) (low + r) high (omega arith) (omega arith) (omega (arith, w.ordered)) w.within (omega (arith, w.within, w.ordered))
+            (omega (arith, leb-true _ _ (yes_before (r - 1) [] (omega arith) (omega arith)), begins (r - 1) [] (omega arith)))
 
-        rest : (i : ℕ) → low + r ≤ i → i < n → v < (label_at b at i).start
-        rest i l m = ⊎_elim left (λ h. w.rest i h m) (cases_lt i high)
-          where
-            left : i < high → v < (label_at b at i).start
-            left h =
-                let k : low + (i - low) ≡ i = omega arith in
-                omega (arith, leb-false _ _ (no_behind (i - low) [] (omega arith) (omega arith)), begins (i - low) [] (omega arith), ap (λ (j : ℕ). (label_at b at j).start) k)
+        down : (r < count) ⊎ (count ≤ r) → Between b at n v (low + r) (low + r)
+        down (inl more) =
+            settle_down b at n v ascends (up (cases_lt r 1)) (low + r) (low + r) (low + r) (omega arith) (omega arith) (omega arith) (omega (arith, w.within, w.ordered))
+            (omega (arith, leb-false _ _ (no_behind r [] (omega arith) (omega arith)), begins r [] (omega arith)))
+        down (inr all) = widen b at n v (up (cases_lt r 1)) (low + r) (low + r) (omega arith) (omega (arith, w.ordered)) (omega (arith, w.within, w.ordered))

@@ -76,7 +76,8 @@ fn halved(s: &[u8], at: usize, n: usize, v: u32, low: usize, high: usize) -> usi
 {
     let bytes = &s[at + Label::BYTES * low..at + Label::BYTES * high];
     let (between, _) = bytes.as_chunks::<{ Label::BYTES }>();
-    low + between.partition_point(|label| start_of(label) <= v)
+    let settled = between.partition_point(|label| start_of(label) <= v);
+    low + settled
 }
 
 // How many of the n labels of the body that begins at `at` start at or before `v`, where the first `from` do. Mostly it is few more: so the

@@ -15,13 +15,18 @@ length_digits zero n = refl
 length_digits (suc k) n = length-append (digits k (n / 10)) ((48 + n % 10) ∷ []) ∙ omega (arith, length_digits k (n / 10))
 
 -- One more than a number's logarithm is how many digits it has, and 0, which has none, has one digit.
-pub places_of : (n : ℕ) (log : Option ℕ) → IfNone log (n ≡ 0) → IfSome log (λ k. 10 ^ k ≤ n) → IfSome log (λ k. n < 10 * 10 ^ k) → IfSome log (λ k. k < 10)
+pub places_of : (n m : ℕ) (log : Option ℕ) → m ≡ n → IfNone log (m ≡ 0) → IfSome log (λ k. 10 ^ k ≤ m) → IfSome log (λ k. m < 10 * 10 ^ k) → IfSome log (λ k. k < 10)
     → Places n (1 + unwrap_or log 0)
-places_of n None none low high few = record { some = omega arith; most = omega arith; held = omega (arith, none); few = λ l. absurd (omega arith) }
-places_of n (Some k) none low high few =
+places_of n m None e none low high few = record { some = omega arith; most = omega arith; held = omega (arith, e, none); few = λ l. absurd (omega arith) }
+places_of n m (Some k) e none low high few =
     let more : 1 + k ≡ suc k = omega arith in
     let less : 1 + k - 1 ≡ k = omega arith in
-    record { some = omega arith; most = omega (arith, few); held = subst (λ (e : ℕ). n < 10 ^ e) (sym more) (simp unary_clauses (omega (arith, high))); few = λ _. subst (λ (e : ℕ). 10 ^ e ≤ n) (sym less) low }
+    record {
+      some = omega arith;
+      most = omega (arith, few);
+      held = subst (λ (d : ℕ). n < 10 ^ d) (sym more) (simp unary_clauses (omega (arith, e, high)));
+      few = λ _. subst (λ (d : ℕ). 10 ^ d ≤ n) (sym less) (omega (arith, e, low));
+    }
 
 -- As many digits as a number has, written, are the number.
 pub number_of : {n k : ℕ} {entry exit : List ℕ} → Places n k → exit ≡ entry ++ digits k n → AddsNumber n entry exit

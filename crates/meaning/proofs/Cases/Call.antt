@@ -2,7 +2,7 @@
 -- field of its result here, and a page the whole buffer before and after.
 use Prim.Native.Nat.{ℕ, ◌≤◌, ◌<◌}
 use native.Mathlib.Omega.{arith}
-use mathlib.Core.Path.{◌≡◌, sym, subst}
+use mathlib.Core.Path.{◌≡◌, sym, ap, subst, ◌∙◌}
 use mathlib.Core.Logic.{◌⊎◌, inl, inr}
 use mathlib.Core.Bool.{Bool, true, false, ◌&&◌}
 use mathlib.Core.List.{List, [], ◌∷◌}
@@ -40,26 +40,26 @@ pub data Why : Type 0 where
   large : Path → Why
 
 -- A call: a question that is accepted, with its outcome for whatever buffer is lent; the answer call or the evidence call with the buffer
--- before and after; or an index and a text with the refusal that both calls for rows give.
+-- before and after; or an index and a text with the refusal that both calls for rows give, and its number in document 01.
 pub data Call : Type 0 where
   accepts : Asking → Call
   answers : Asking → List ℕ → List ℕ → Call
   shows : Asking → List ℕ → List ℕ → Call
-  refuses : List ℕ → List ℕ → Why → Refusal → Call
+  refuses : List ℕ → List ℕ → Why → Refusal → ℕ → Call
 
--- Both calls for rows refuse so, whatever the place, and leave whatever buffer is lent; and the numbers of that are the refusal's, and 0 rows,
--- no further record, next place 0 and unknown step 32.
-pub record RefuseRight (b text : List ℕ) (e : Refusal) : Type 0 where
+-- Both calls for rows refuse so, whatever the place, and leave whatever buffer is lent; and the numbers of that are the refusal's, which a
+-- case writes out, and 0 rows, no further record, next place 0 and unknown step 32.
+pub record RefuseRight (b text : List ℕ) (e : Refusal) (n : ℕ) : Type 0 where
   pub answered : (place : ℕ) (entry : List ℕ) → Answered b text place entry entry (Err e)
   pub shown : (place : ℕ) (entry : List ℕ) → Shown b text place entry entry (Err e)
-  pub told : numbers (Err e) ≡ number_of e ∷ 0 ∷ 0 ∷ 0 ∷ 32 ∷ []
+  pub told : numbers (Err e) ≡ n ∷ 0 ∷ 0 ∷ 0 ∷ 32 ∷ []
 
 -- What is said of a call.
 abbrev pub CallRight : Call → Type 0
 CallRight (accepts c) = AskRight c
 CallRight (answers c entry exit) = Answered c.index c.text c.place entry exit (result_of c)
 CallRight (shows c entry exit) = Shown c.index c.text c.place entry exit (result_of c)
-CallRight (refuses b text why e) = RefuseRight b text e
+CallRight (refuses b text why e n) = RefuseRight b text e n
 
 -- What the test finds about a refusal.
 abbrev Due : List ℕ → List ℕ → Why → ℕ → Type 0
@@ -126,7 +126,7 @@ unfolding right_b due_b buffer_b
 call_b (accepts c) = ask_b c
 call_b (answers c entry exit) = buffer_b c (answer_room (asked c.index c.tree) (length entry)) c.positions entry exit && ask_b c
 call_b (shows c entry exit) = buffer_b c (evidence_room (asked c.index c.tree) (length entry)) (joined c.rows) entry exit && ask_b c
-call_b (refuses b text why e) = due_b b text why (number_of e)
+call_b (refuses b text why e n) = due_b b text why n && eqb (number_of e) n
 
 -- A call that passes its test is right.
 pub call_right : (c : Call) → T (call_b c) → CallRight c
@@ -142,9 +142,13 @@ call_right (shows c entry exit) t =
     let b = and_yes (buffer_b c room (joined c.rows) entry exit) (ask_b c) t in
     let f = passed (buffer_decides c room (joined c.rows) entry exit) b.0 in
     subst (λ (x : List ℕ). Shown c.index c.text c.place entry x (result_of c)) f.1 ((ask_sound c b.1).shown entry f.0)
-call_right (refuses b text why e) t =
-    let g : Given (call_table b text) (number_of e) = given_due b text (number_of e) why (passed (due_decides b text why (number_of e)) t) in
-    record { answered = λ place entry. refused g (refusal_is e entry); shown = λ place entry. refused g (refusal_is e entry); told = refusal_told e }
+call_right (refuses b text why e n) t =
+    let f = passed (and_decides (due_decides b text why n) (eq_decides (number_of e) n)) t in
+    let g : Given (call_table b text) (number_of e) = subst (Given (call_table b text)) (sym f.1) (given_due b text n why f.0) in
+    record {
+      answered = λ place entry. refused g (refusal_is e entry);
+      shown = λ place entry. refused g (refusal_is e entry);
+      told = refusal_told e ∙ ap (λ (k : ℕ). k ∷ 0 ∷ 0 ∷ 0 ∷ 32 ∷ []) f.1 }
 
 -- Every call of a table is right.
 abbrev pub CallsRight : List Call → Type 0

@@ -48,23 +48,23 @@ calls room positions rows more after =
 unfoldable pub written_out : List Call
 unfolding bytes small_day times before deep
 written_out =
-    refuses (0 ∷ 0 ∷ 1 ∷ []) (bytes "//call") unlawful TooShort
+    refuses (0 ∷ 0 ∷ 1 ∷ []) (bytes "//call") unlawful TooShort 1
     ∷
-    refuses (0 ∷ 0 ∷ 2 ∷ 0 ∷ []) [] unlawful OtherVersion
+    refuses (0 ∷ 0 ∷ 2 ∷ 0 ∷ []) [] unlawful OtherVersion 2
     ∷
-    refuses empty [] blank NotFollowing
+    refuses empty [] blank NotFollowing 8
     ∷
-    refuses empty (times 56 (bytes "//aaaaaaaaaaaaaaaa") ++ bytes "//aaaaaaaaaaaaaaa") long TooLong
+    refuses empty (times 56 (bytes "//aaaaaaaaaaaaaaaa") ++ bytes "//aaaaaaaaaaaaaaa") long TooLong 7
     ∷
-    refuses empty (times 56 (bytes "//aaaaaaaaaaaaaaaa") ++ bytes "//aaaaaaaaaaaaaa") (large (before 56 (replicate 16 97) (path (replicate 14 97) finish))) TooLarge
+    refuses empty (times 56 (bytes "//aaaaaaaaaaaaaaaa") ++ bytes "//aaaaaaaaaaaaaa") (large (before 56 (replicate 16 97) (path (replicate 14 97) finish))) TooLarge 9
     ∷
     accepts (nothing_found (times 32 (bytes "//a")) (before 31 (bytes "a") (path (bytes "a") finish)))
     ∷
-    refuses empty (times 33 (bytes "//a")) (large (before 32 (bytes "a") (path (bytes "a") finish))) TooLarge
+    refuses empty (times 33 (bytes "//a")) (large (before 32 (bytes "a") (path (bytes "a") finish))) TooLarge 9
     ∷
     accepts (nothing_found (deep_text 8) (deep 8))
     ∷
-    refuses empty (deep_text 9) (large (deep 9)) TooLarge
+    refuses empty (deep_text 9) (large (deep 9)) TooLarge 9
     ∷
     answers (calls (just 5) (0 ∷ 1 ∷ 2 ∷ 3 ∷ []) ((0 ∷ 0 ∷ []) ∷ (1 ∷ 0 ∷ []) ∷ (2 ∷ 0 ∷ []) ∷ (3 ∷ 1 ∷ []) ∷ []) false 5) (9 ∷ 9 ∷ 9 ∷ 9 ∷ 9 ∷ []) (0 ∷ 1 ∷ 2 ∷ 3 ∷ 9 ∷ [])
     ∷

@@ -1,7 +1,7 @@
 -- Waiting tables worked out by hand, each call with the record that ends its wait and with the wait itself, and lists of times that are refused.
 use Prim.Native.Nat.{ℕ, suc}
 use native.Mathlib.Omega.{arith}
-use mathlib.Core.Path.{◌≡◌, refl, subst}
+use mathlib.Core.Path.{◌≡◌, sym, ap, subst}
 use mathlib.Core.Bool.{Bool, ◌&&◌}
 use mathlib.Core.List.{List, [], ◌∷◌, ◌++◌}
 use lib.Dec.{T, eqb, ltb}
@@ -15,7 +15,7 @@ use Rattle.meaning.specs.Bytes.{u32_at}
 use Rattle.meaning.specs.Names.{same}
 use Rattle.meaning.specs.Day.{list_among}
 use Rattle.meaning.specs.Waits.{Ending, board, cancel, Traffic, traffic, Ends, Open, wait_until, Figured, no_figures}
-use Rattle.meaning.specs.Refusals.{Clear, Verdict, waits_table}
+use Rattle.meaning.specs.Refusals.{Given, Clear, Verdict, waits_table}
 use Rattle.meaning.specs.Promises.{Tabled, untold, told}
 use Rattle.meaning.specs.Fit.{Sound, one_ended, one_open}
 use Rattle.meaning.proofs.Decide.{passed, lt_decides, eq_decides, and_decides, each, some}
@@ -32,23 +32,23 @@ pub data Became : Type 0 where
   by : Ending → ℕ → ℕ → Became
   neither : Became
 
--- A list of times put to a day: it is refused; or each call has this outcome, and the figures are these.
+-- A list of times put to a day: it is refused, with the number in document 01; or each call has this outcome, and the figures are these.
 pub data Case : Type 0 where
-  refuses : List ℕ → List ℕ → Refusal → Case
+  refuses : List ℕ → List ℕ → Refusal → ℕ → Case
   tables : List ℕ → List ℕ → List Became → Figures → Case
 
 -- The figures of no calls, written out.
 abbrev pub nobody : Figures
 nobody = record { calls = 0; boarded = 0; cancelled = 0; left_open = 0; total = 0; longest = 0; over = 0 }
 
--- A refusal, and its numbers: its own, and 0 for each figure.
-pub record Refuses (b times : List ℕ) (e : Refusal) : Type 0 where
+-- A refusal, and its numbers: its own, which a case writes out, and 0 for each figure.
+pub record Refuses (b times : List ℕ) (e : Refusal) (n : ℕ) : Type 0 where
   pub refused : Tabled b times (Err e)
-  pub told : figure_numbers (Err e) ≡ number_of e ∷ 0 ∷ 0 ∷ 0 ∷ 0 ∷ 0 ∷ 0 ∷ 0 ∷ []
+  pub told : figure_numbers (Err e) ≡ n ∷ 0 ∷ 0 ∷ 0 ∷ 0 ∷ 0 ∷ 0 ∷ 0 ∷ []
 
 -- What is said of a case.
 abbrev pub Right : Case → Type 0
-Right (refuses b times e) = Refuses b times e
+Right (refuses b times e n) = Refuses b times e n
 Right (tables b times calls f) = Tabled b times (Ok f)
 
 -- The figures with these calls after the first ones, of which f are the figures.
@@ -95,16 +95,18 @@ same_figures f g =
 -- The test of a case. Whoever unfolds it unfolds all that it computes with.
 unfoldable right_b : Case → Bool
 unfolding check_of u32_at list_among same each some inside_each inside_all ends_b open_b no_entry_b descend_b waits_of follow_b
-right_b (refuses b times e) = eqb (waits_of b times) (number_of e) && ltb 0 (number_of e)
+right_b (refuses b times e n) = eqb (waits_of b times) n && (ltb 0 n && eqb (number_of e) n)
 right_b (tables b times calls f) = eqb (waits_of b times) 0 && (follow_b (traffic b times) 0 calls && same_b (after no_figures calls) f)
 
 -- A case that passes its test is right.
 right : (c : Case) → T (right_b c) → Right c
 unfolding right_b
-right (refuses b times e) t =
-    let n : ℕ = number_of e in
-    let f = passed (and_decides (eq_decides (waits_of b times) n) (lt_decides 0 n)) t in
-    record { refused = untold (verdict_given (waits_table b times) n f.1 (subst (Verdict (waits_table b times)) f.0 (waits_agrees b times))); told = refl }
+right (refuses b times e n) t =
+    let f = passed (and_decides (eq_decides (waits_of b times) n) (and_decides (lt_decides 0 n) (eq_decides (number_of e) n))) t in
+    let g : Given (waits_table b times) n = verdict_given (waits_table b times) n f.1.0 (subst (Verdict (waits_table b times)) f.0 (waits_agrees b times)) in
+    record {
+      refused = untold (subst (Given (waits_table b times)) (sym f.1.1) g);
+      told = ap (λ (k : ℕ). k ∷ 0 ∷ 0 ∷ 0 ∷ 0 ∷ 0 ∷ 0 ∷ 0 ∷ []) f.1.1 }
 right (tables b times calls f) t =
     let x = passed (and_decides (eq_decides (waits_of b times) 0) (and_decides (follow_decides (traffic b times) 0 calls) (same_figures (after no_figures calls) f))) t in
     let c : Clear (waits_table b times) = zero_clear (waits_table b times) (waits_rising b times) (waits_of b times) x.0 (waits_agrees b times) in
@@ -150,25 +152,25 @@ waiting =
     tables small_day (exact ++ 4_294_967_295 ∷ []) (by cancel 0 7 ∷ by cancel 1 11 ∷ by board 0 0 ∷ by board 1 40 ∷ neither ∷ [])
     (record { calls = 5; boarded = 2; cancelled = 2; left_open = 1; total = 58; longest = 40; over = 4 })
     ∷
-    refuses small_day start NoEntry
+    refuses small_day start NoEntry 20
     ∷
-    refuses small_day [] NoEntry
+    refuses small_day [] NoEntry 20
     ∷
-    refuses small_day (start ++ 101 ∷ []) TimesDescend
+    refuses small_day (start ++ 101 ∷ []) TimesDescend 21
     ∷
-    refuses small_day (exact ++ 0 ∷ []) TimesDescend
+    refuses small_day (exact ++ 0 ∷ []) TimesDescend 21
     ∷
-    refuses small_day (1 ∷ 0 ∷ []) NoEntry
+    refuses small_day (1 ∷ 0 ∷ []) NoEntry 20
     ∷
-    refuses [] (1 ∷ 0 ∷ []) TooShort
+    refuses [] (1 ∷ 0 ∷ []) TooShort 1
     ∷
     tables (head 0) [] [] nobody
     ∷
-    refuses (head 0) (1 ∷ 0 ∷ []) TimesDescend
+    refuses (head 0) (1 ∷ 0 ∷ []) TimesDescend 21
     ∷
     tables only_calls (5 ∷ 5 ∷ 6 ∷ []) (neither ∷ []) (record { calls = 1; boarded = 0; cancelled = 0; left_open = 1; total = 0; longest = 0; over = 0 })
     ∷
-    refuses late_door (0 ∷ 0 ∷ 0 ∷ 0 ∷ []) NoEntry
+    refuses late_door (0 ∷ 0 ∷ 0 ∷ 0 ∷ []) NoEntry 20
     ∷
     tables nest tens (by board 0 30 ∷ by board 0 10 ∷ neither ∷ []) (record { calls = 3; boarded = 2; cancelled = 0; left_open = 1; total = 40; longest = 30; over = 2 })
     ∷

@@ -5,6 +5,7 @@
 mod looking;
 mod settling;
 
+pub use looking::Sight;
 use meaning::{Body, Step};
 pub use settling::Engine;
 

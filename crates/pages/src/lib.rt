@@ -3,7 +3,7 @@
 
 mod rows;
 
-ghost use Rattle.std.specs.Prelude.{◌≡◌, ℕ, ◌+◌, ◌/◌, ◌<◌, ◌≤◌, false, length, set, replicate};
+ghost use Rattle.std.specs.Prelude.{◌≡◌, ℕ, ◌+◌, ◌-◌, ◌/◌, ◌<◌, ◌≤◌, false, length, set, replicate};
 ghost use Rattle.std.proofs.Math.Seq.{paste};
 ghost use Rattle.meaning.specs.Limits.{most_labels, most_steps};
 ghost use Rattle.meaning.specs.Bytes.{at};
@@ -14,6 +14,7 @@ ghost use Rattle.pages.specs.RowParts.{PartOf};
 use cursors::{Engine, Plan};
 use meaning::{Page, Step};
 pub use rows::{Returned, Row, Whole};
+use std::ops::Range;
 
 // Cursors at the beginning of each list, but that of the returned step, which is at the page's place.
 fn start_from(returned: usize, place: usize) -> [usize; Step::MOST]
@@ -56,21 +57,23 @@ fn last_page(plan: &Plan, rows: usize, unknown: Option<u8>) -> Page
     }
 }
 
-// A page from `place` on: a row of this kind for each record. It tells the unknown step that it is given.
+// A page from `place` on: for each record the positions of these steps. It tells the unknown step that it is given.
 #[tactic(auto, using(cursors::proofs::SettleTurns::ret_of, cursors::proofs::SettleTurns::ret_few))]
-pub fn write_page<R: Row>(
+pub fn write_page(
     engine: &Engine,
+    steps: Range<usize>,
     place: usize,
     unknown: Option<u8>,
     out: &mut [u32],
 ) -> Page
-    requires { Planned engine.now.index.now engine.now.plan.now }
-    ensures paged { let plan = engine.now.plan.now in let a = plan_of engine.now.index.now plan in let width = R.width plan.count plan.returned in Paged a (PartOf a (R.first plan.count plan.returned) width) place (length out.old / width) out.old out.new result }
+    requires planned { Planned engine.now.index.now engine.now.plan.now }
+    requires some { steps.start < steps.end }
+    requires within { steps.end ≤ engine.now.plan.now.count }
+    ensures paged { let a = plan_of engine.now.index.now engine.now.plan.now in let width = steps.end - steps.start in Paged a (PartOf a steps.start width) place (length out.old / width) out.old out.new result }
     ensures told { result.unknown ≡ unknown }
 {
     let plan = engine.plan;
     let returned = plan.returned;
-    let steps = R::steps(plan);
     let width = steps.end - steps.start;
     let room = out.len() / width;
     let mut pos = start_from(returned, place);

@@ -23,5 +23,5 @@ pub fn respond<R: Row>(
     let (plan, unknown) = plan::draw(day, text, &question);
     let engine = Engine { index, plan: &plan };
     // A place is widened: no conversion from u32 to usize stands in the library's `From`.
-    Ok(write_page::<R>(&engine, place as usize, unknown, out))
+    Ok(write_page(&engine, R::steps(&plan), place as usize, unknown, out))
 }

@@ -5,6 +5,6 @@ use Rattle.pages.proofs.Paging.{Writing}
 use Rattle.pages.proofs.write_page.Given as goal
 
 abbrev pub invariant-loop-rows : goal.invariant-loop-rows
-invariant-loop-rows g l =
+invariant-loop-rows l =
     let a = plan_of l.engine.index.now l.plan in
     Writing a (PartOf a l.steps.start l.width) l.place l.room l.width l.initial.out l.out l.pos l.rows l.first

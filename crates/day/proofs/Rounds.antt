@@ -25,6 +25,7 @@ use Rattle.turn.specs.declared.Turn.TheVariants.{Closed, Opened}
 use Rattle.turn.specs.Sweep.{Turned}
 use Rattle.turn.proofs.Stack.{Swept, pushed, Same, ClosesOne, OpensOne, Judged}
 use Rattle.turn.proofs.Sweeping.{pushed_below, pushed_top}
+use Rattle.turn.proofs.Turning.{innermost_held}
 use Rattle.turn.proofs.Judging.{turn_judged}
 
 -- The open records stand in the table.
@@ -81,7 +82,7 @@ module _ (b b₀ places keys : List ℕ) (coming : Option Met) (table records : 
   round_judged turn turned =
       turn_judged b places keys (take depth table) coming places' keys' turn w.turn.walk w.turn.foretold ordered (omega (arith, lent, w.shallow)) w.stack
       (subst (λ (n : ℕ). Swept (lists_of b) (cursor b places) w.stack n) (sym lent) w.turn.swept)
-      (λ k l. let m : k < depth = omega (arith, lent) in rw (get_or-take depth table k blank m) (w.turn.held k m))
+      (innermost_held (lists_of b) w.stack (take depth table) (λ k l. let m : k < depth = omega (arith, lent) in rw (get_or-take depth table k blank m) (w.turn.held k m)))
       (subst (λ (rs : List Open). Turned b places keys rs coming places' keys' turn) lends (subst (λ (c : List ℕ). Turned c places keys records coming places' keys' turn) same turned))
 
   module _ (next : Option Met) (turned : Turned b₀ places keys records coming places' keys' (Closed next)) where

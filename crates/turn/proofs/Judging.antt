@@ -15,12 +15,12 @@ use Rattle.lists.specs.Ordering.{Ordered}
 use Rattle.open.specs.declared.Open.{Open}
 use Rattle.turn.specs.declared.Turn.{Turn}
 use Rattle.turn.specs.Sweep.{Turned, ends, closes, refuses, opens}
-use Rattle.turn.proofs.Stack.{Swept, Held, Judged}
+use Rattle.turn.proofs.Stack.{Swept, Innermost, Judged}
 use Rattle.turn.proofs.Passing.{sweep_end}
 use Rattle.turn.proofs.Turning.{turn_close, turn_refuse, turn_open, turn_room}
 
 module _ (b places keys : List ℕ) (records : List Open) (coming : Option Met) (places' keys' : List ℕ) (turn : Turn) (walk : Standing b places keys) (foretold : Foretells (lists_of b) (cursor b places) coming)
-    (ordered : Ordered (lists_of b)) (shallow : length records ≤ most_nested) (stack : ℕ → Place) (swept : Swept (lists_of b) (cursor b places) stack (length records)) (held : Held (lists_of b) stack records) where
+    (ordered : Ordered (lists_of b)) (shallow : length records ≤ most_nested) (stack : ℕ → Place) (swept : Swept (lists_of b) (cursor b places) stack (length records)) (inner : Innermost (lists_of b) stack records) where
   -- The lists.
   abbrev t : Lists
   t = lists_of b
@@ -42,11 +42,11 @@ module _ (b places keys : List ℕ) (records : List Open) (coming : Option Met) 
   turn_judged (ends c e pe ke) = by _ e (fails (sweep_end t ordered pos stack (length records) swept (told c)))
   turn_judged (closes met c h e pe ke) =
       let f = told c in
-      by _ e (refl, pe, ke, turn_close t ordered pos records stack swept held walk.sorted met.list met.start f.0 f.2 h)
+      by _ e (refl, pe, ke, turn_close t ordered pos records stack swept inner walk.sorted met.list met.start f.0 f.2 h)
   turn_judged (refuses met c stays r e pe ke) =
       let f = told c in
-      by _ e (holds (turn_refuse t ordered pos records stack swept held walk.sorted met.list met.start f.0 f.2 met.end f.3 stays r))
+      by _ e (holds (turn_refuse t ordered pos records stack swept inner walk.sorted met.list met.start f.0 f.2 met.end f.3 stays r))
   turn_judged (opens met next c stays free h e) =
       let f = told c in
       let room : length records < most_nested = turn_room records met.start met.end shallow free in
-      by _ e (h.standing, h.foretold, turn_open t ordered pos records stack swept held walk.sorted met.list met.start f.0 f.2 met.end f.3 stays free room (cursor b places') h.moved)
+      by _ e (h.standing, h.foretold, turn_open t ordered pos records stack swept inner walk.sorted met.list met.start f.0 f.2 met.end f.3 stays free room (cursor b places') h.moved)

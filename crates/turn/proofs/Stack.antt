@@ -16,6 +16,7 @@ use Rattle.order.specs.Walk.{start_of, end_of, Seen, Waits, next, Moved, Foretel
 use Rattle.order.specs.Standing.{cursor, Standing}
 use Rattle.open.specs.declared.Open.{Open}
 use Rattle.open.specs.Entries.{entry}
+use Rattle.turn.specs.Sweep.{innermost}
 use Rattle.turn.specs.declared.Turn.{Turn}
 use Rattle.turn.specs.declared.Turn.TheVariants.{Over, Closed, Opened}
 
@@ -57,6 +58,10 @@ pub record Same (t : Lists) (x : Place) (inner : Open) : Type 0 where
 -- The open records are those of the labels at the places.
 abbrev pub Held : Lists → (ℕ → Place) → List Open → Type 0
 Held t stack records = (k : ℕ) → k < length records → Same t (stack k) (entry records k)
+
+-- The innermost record is that of the last of those places. A turn asks no more of the open records.
+abbrev pub Innermost : Lists → (ℕ → Place) → List Open → Type 0
+Innermost t stack records = (k : ℕ) → length records ≡ suc k → Same t (stack k) (innermost records)
 
 -- A turn that closes the innermost record.
 pub record ClosesOne (t : Lists) (pos : ℕ → ℕ) (stack : ℕ → Place) (depth : ℕ) : Type 0 where

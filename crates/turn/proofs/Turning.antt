@@ -15,15 +15,15 @@ use Rattle.lists.specs.Ordering.{Ordered}
 use Rattle.open.specs.declared.Open.{Open}
 use Rattle.open.specs.Entries.{entry}
 use Rattle.turn.specs.Sweep.{innermost, Closes, Refuses}
-use Rattle.turn.proofs.Stack.{LiesIn, Swept, Same, Held, ClosesOne, OpensOne}
+use Rattle.turn.proofs.Stack.{LiesIn, Swept, Same, Held, Innermost, ClosesOne, OpensOne}
 use Rattle.turn.proofs.Sweeping.{sweep_pop, sweep_clash}
 use Rattle.turn.proofs.Opening.{sweep_deep, sweep_push}
 
-module _ (t : Lists) (law : Ordered t) (pos : ℕ → ℕ) (records : List Open) (stack : ℕ → Place) (swept : Swept t pos stack (length records)) (held : Held t stack records) (sorted : Sorted t pos) (r start : ℕ) (comes : Comes t pos r) (start_is : start ≡ start_of t (next pos r)) where
-  -- The innermost record is the last of the open ones.
-  inner : (k : ℕ) → length records ≡ suc k → Same t (stack k) (innermost records)
-  inner k e = let last : k ≡ length records - 1 = omega arith in subst (λ (i : ℕ). Same t (stack k) (entry records i)) last (held k (omega arith))
+-- Where all open records are those of their labels, the innermost is: it is the last of them.
+pub innermost_held : (t : Lists) (stack : ℕ → Place) (records : List Open) → Held t stack records → Innermost t stack records
+innermost_held t stack records held k e = let last : k ≡ length records - 1 = omega arith in subst (λ (i : ℕ). Same t (stack k) (entry records i)) last (held k (omega arith))
 
+module _ (t : Lists) (law : Ordered t) (pos : ℕ → ℕ) (records : List Open) (stack : ℕ → Place) (swept : Swept t pos stack (length records)) (inner : Innermost t stack records) (sorted : Sorted t pos) (r start : ℕ) (comes : Comes t pos r) (start_is : start ≡ start_of t (next pos r)) where
   -- The innermost record ends before the next label starts: it is closed.
   pub turn_close : Closes records start → ClosesOne t pos stack (length records)
   turn_close c = record {

@@ -148,7 +148,8 @@ call_right (refuses b text why e n) t =
     record {
       answered = λ place entry. refused g (refusal_is e entry);
       shown = λ place entry. refused g (refusal_is e entry);
-      told = refusal_told e ∙ ap (λ (k : ℕ). k ∷ 0 ∷ 0 ∷ 0 ∷ 32 ∷ []) f.1 }
+      told = refusal_told e ∙ ap (λ (k : ℕ). k ∷ 0 ∷ 0 ∷ 0 ∷ 32 ∷ []) f.1;
+    }
 
 -- Every call of a table is right.
 abbrev pub CallsRight : List Call → Type 0

@@ -106,7 +106,8 @@ right (refuses b times e n) t =
     let g : Given (waits_table b times) n = verdict_given (waits_table b times) n f.1.0 (subst (Verdict (waits_table b times)) f.0 (waits_agrees b times)) in
     record {
       refused = untold (subst (Given (waits_table b times)) (sym f.1.1) g);
-      told = ap (λ (k : ℕ). k ∷ 0 ∷ 0 ∷ 0 ∷ 0 ∷ 0 ∷ 0 ∷ 0 ∷ []) f.1.1 }
+      told = ap (λ (k : ℕ). k ∷ 0 ∷ 0 ∷ 0 ∷ 0 ∷ 0 ∷ 0 ∷ 0 ∷ []) f.1.1;
+    }
 right (tables b times calls f) t =
     let x = passed (and_decides (eq_decides (waits_of b times) 0) (and_decides (follow_decides (traffic b times) 0 calls) (same_figures (after no_figures calls) f))) t in
     let c : Clear (waits_table b times) = zero_clear (waits_table b times) (waits_rising b times) (waits_of b times) x.0 (waits_agrees b times) in

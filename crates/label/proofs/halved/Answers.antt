@@ -1,4 +1,5 @@
--- `label::halved` meets its contract: the labels that are left are searched as chunks of 8 bytes.
+-- `label::halved` meets its contract: the labels that are left are searched as chunks of 8 bytes. What the code makes of the number that the
+-- search finds is left to arithmetic, so that code of another form is refused only where it gives another number.
 use Rattle.std.proofs.Common.{rules, tests, arith, ℕ, ◌+◌, List, subst}
 use Rattle.std.proofs.Math.Dec.{leb}
 use Rattle.std.proofs.lemmas.List.Sorted.{IsPartitionPoint-from_clause}

@@ -1,2 +1,3 @@
 -- What the functions of this crate promise to each other.
 pub mod Adding
+pub mod Memory

@@ -11,25 +11,31 @@ ghost use Rattle.lines.specs.Adding.{most_digits, most_record, most_line, Places
 use meaning::{Label, Step};
 use std::marker::Model;
 
-// A line's text: what was written of it so far. For its callers it is the list of these bytes.
+// A line's text: what was written of it so far. For its callers it is the list of these bytes, and it is copied like a number: the bytes behind
+// them are 0 in every line, so that the list tells all of it.
 // (a) It is written by hand, and not by `write!`: by its contract a `write!` may fail, also into std's text of fixed memory, and a line is
 // promised whole.
-#[derive(Drop)]
+#[derive(Clone, Copy)]
 pub struct Line {
     bytes: [u8; Line::MOST_BYTES],
     used: usize,
 }
 
 impl Model for Line {
-    ghost use Rattle.std.specs.Prelude.{ℕ, List, take, ◌≤◌};
+    ghost use Rattle.std.specs.Prelude.{ℕ, List, take, length};
 
     ghost Value = { List ℕ };
 
-    ghost use Rattle.lines.specs.Adding.{most_line};
+    ghost use Rattle.lines.specs.declared.TheConstants.Line.{MOST_BYTES};
+    ghost use Rattle.lines.specs.Memory.{Holds, memory, memory_back, used_back};
 
     ghost view = { λ l. take l.used l.bytes };
 
-    ghost invariant = { λ l. l.used ≤ most_line };
+    ghost invariant = { λ l. Holds MOST_BYTES l.used l.bytes };
+
+    ghost inverse = { λ line. record { bytes = memory MOST_BYTES line; used = length line } };
+
+    ghost inverse_ok = { λ l h i. record { bytes = memory_back h i; used = used_back h i } };
 }
 
 // How many decimal digits a number has: one more than its logarithm, and 0 has one. A logarithm is at most 9, so `as` loses nothing; there is

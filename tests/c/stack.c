@@ -105,10 +105,10 @@ static const struct {
 } calls[] = {
     {"nothing", nothing, 0, FRAME, FRAME},
     {"a function that touches 20,000", known, 0, KNOWN, KNOWN + FRAME},
-    {"the check of 256 tags", check, 0, 7500, 30000},
-    {"the waiting table of 256 tags", waits, 0, 7500, 30000},
-    {"the answer to 32 steps", answer_steps, 0, 9000, 36000},
-    {"the evidence of 32 steps", evidence_steps, 0, 9000, 36000},
+    {"the check of 256 tags", check, 0, 3500, 14000},
+    {"the waiting table of 256 tags", waits, 0, 3500, 14000},
+    {"the answer to 32 steps", answer_steps, 0, 5000, 20000},
+    {"the evidence of 32 steps", evidence_steps, 0, 5000, 20000},
     {"the answer to 256 open brackets", answer_brackets, ROADTHRUM_NOT_FOLLOWING, 9500, 38000},
     {"the evidence of 256 open brackets", evidence_brackets, ROADTHRUM_NOT_FOLLOWING, 9500, 38000},
 };

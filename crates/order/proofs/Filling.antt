@@ -2,11 +2,10 @@
 use Prim.Native.Nat.{ℕ, ◌+◌, ◌*◌, ◌≤◌, ◌<◌}
 use native.Mathlib.Nat.{eq-or-lt_of_le, ne_of_lt}
 use native.Mathlib.Omega.{arith}
-use mathlib.Core.Path.{◌≡◌, refl, ap, subst, ◌∙◌}
+use mathlib.Core.Path.{◌≡◌, refl, ap, ◌∙◌}
 use mathlib.Core.Logic.{◌⊎◌, inl, inr}
 use mathlib.Core.List.{List}
-use lib.ListN.{length, take, set, length-set}
-use Rattle.std.proofs.lemmas.List.{length-take-le, get_or-take}
+use lib.ListN.{length, set, length-set}
 use lib.Seq.{get_or-set_same, get_or-set_other}
 use Rattle.meaning.specs.Limits.{most_tags}
 use Rattle.meaning.specs.Bytes.{u32_at}
@@ -17,7 +16,7 @@ use Rattle.tournament.specs.Tournament.{numbers, past}
 use Rattle.contents.specs.Parts.{Placed}
 use Rattle.order.specs.Walk.{Ascend}
 use Rattle.order.specs.Keys.{Key}
-use Rattle.order.specs.Standing.{position_at, cursor, AtLabel, Standing, Begun}
+use Rattle.order.specs.Standing.{position_at, cursor, AtLabel, Filled, Standing, Begun}
 use Rattle.order.proofs.WalkLaws.{none_seen}
 
 -- The label that begins at a place is the list's at that position.
@@ -38,45 +37,26 @@ key_none t r p l = record { some = λ h. absurd (omega arith); small = λ h. abs
 pub at_first : (b : List ℕ) (r place : ℕ) → place ≡ offset b r → AtLabel b r place × (position_at b r place ≡ 0)
 at_first b r place e = (record { begins = omega arith; within = omega arith }, omega arith)
 
--- The loop of `begin`: the first r lists have their places and keys.
-pub record Filling (b : List ℕ) (r : ℕ) (places keys : List ℕ) : Type 0 where
-  pub places_long : length places ≡ most_tags
-  pub keys_long : length keys ≡ most_tags
-  pub place : (j : ℕ) → j < r → at places j ≡ offset b j
-  pub key : (j : ℕ) → j < r → Key (lists_of b) j 0 (at keys j)
-
--- List r gets them.
-pub filling_on : (b : List ℕ) (r : ℕ) (places keys : List ℕ) → Filling b r places keys → r < most_tags → (place key : ℕ) → place ≡ offset b r → Key (lists_of b) r (position_at b r place) key → Filling b (r + 1) (set places r place) (set keys r key)
-filling_on b r places keys w l place key e k = record {
-  places_long = simp length-set w.places_long;
-  keys_long = simp length-set w.keys_long;
-  place = λ j h. there j (eq-or-lt_of_le {n = j} {m = r} (omega arith));
-  key = λ j h. keyed j (eq-or-lt_of_le {n = j} {m = r} (omega arith));
-}
+-- List r gets its place.
+pub filling_on : (b : List ℕ) (r : ℕ) (places : List ℕ) → Filled b r places → r < most_tags → (place : ℕ) → place ≡ offset b r → Filled b (r + 1) (set places r place)
+filling_on b r places w l place e = record { long = simp length-set w.long; place = λ j h. there j (eq-or-lt_of_le {n = j} {m = r} (omega arith)) }
   where
     there : (j : ℕ) → (j ≡ r) ⊎ (j < r) → at (set places r place) j ≡ offset b j
-    there j (inl f) = rw f (get_or-set_same places r place 0 (omega (arith, w.places_long)) ∙ e)
+    there j (inl f) = rw f (get_or-set_same places r place 0 (omega (arith, w.long)) ∙ e)
     there j (inr h) = get_or-set_other places r j place 0 (ne_of_lt h) ∙ w.place j h
 
-    keyed : (j : ℕ) → (j ≡ r) ⊎ (j < r) → Key (lists_of b) j 0 (at (set keys r key) j)
-    keyed j (inl f) = rw (f, get_or-set_same keys r key 0 (omega (arith, w.keys_long))) (subst (λ (p : ℕ). Key (lists_of b) r p key) (at_first b r place e).1 k)
-    keyed j (inr h) = rw (get_or-set_other keys r j key 0 (ne_of_lt h)) (w.key j h)
-
--- When all lists have them, the walk stands at the first labels.
-module _ (b places keys : List ℕ) (placed : Placed b) (ascend : Ascend (lists_of b)) (w : Filling b (tags b) places keys) where
+-- When all lists have theirs, the walk stands at the first labels.
+module _ (b places : List ℕ) (placed : Placed b) (ascend : Ascend (lists_of b)) (filled : Filled b (tags b) places) where
   -- Nothing was handed out.
   pub filled_begun : Begun b places
-  filled_begun r l = (at_first b r (at places r) (w.place r l)).1
+  filled_begun r l = (at_first b r (at places r) (filled.place r l)).1
 
-  -- Each key is its list's.
-  pub filled_standing : Standing b places (take (tags b) keys)
-  filled_standing = record {
+  -- And where the keys are those of the first labels, it is a walk.
+  pub filled_standing : (keys : List ℕ) → length keys ≡ tags b → ((r : ℕ) → r < tags b → Key (lists_of b) r (position_at b r (offset b r)) (at keys r)) → Standing b places keys
+  filled_standing keys many key = record {
     placed = placed;
     ascend = ascend;
-    cursors = record { long = w.places_long; each = λ r l. (at_first b r (at places r) (w.place r l)).0 };
+    cursors = record { long = filled.long; each = λ r l. (at_first b r (at places r) (filled.place r l)).0 };
     sorted = λ x y s v. absurd (none_seen (lists_of b) (cursor b places) filled_begun x s);
-    keyed = record {
-      many = length-take-le (tags b) keys (omega (arith, w.keys_long, placed.few));
-      key = λ r l. rw (filled_begun r l, get_or-take (tags b) keys r 0 l) (w.key r l);
-    };
+    keyed = record { many = many; key = λ r l. rw (filled.place r l) (key r l) };
   }

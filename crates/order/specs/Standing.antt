@@ -43,6 +43,11 @@ pub record Standing (b places keys : List ℕ) : Type 0 where
   pub sorted : Sorted (lists_of b) (cursor b places)
   pub keyed : Keys (lists_of b) (cursor b places) keys
 
+-- The first lists, `many` of them, have the places of their first labels.
+pub record Filled (b : List ℕ) (many : ℕ) (places : List ℕ) : Type 0 where
+  pub long : length places ≡ most_tags
+  pub place : (r : ℕ) → r < many → at places r ≡ offset b r
+
 -- A walk that begins: nothing was handed out.
 abbrev pub Begun : List ℕ → List ℕ → Type 0
 Begun b places = (r : ℕ) → r < tags b → cursor b places r ≡ 0

@@ -1,25 +1,34 @@
 // A walk: the lists' places in the index, and a tournament of their keys there.
 ghost use Rattle.std.specs.Prelude.{◌≡◌};
-ghost use Rattle.meaning.specs.Day.{lists_of};
+ghost use Rattle.meaning.specs.Day.{tags, lists_of};
 ghost use Rattle.order.specs.Walk.{Ascend, Comes, Foretells};
-ghost use Rattle.order.specs.Standing.{cursor, Names, Standing, Begun, HandsOut};
+ghost use Rattle.order.specs.Standing.{cursor, Filled, Standing, Begun, HandsOut};
 ghost use Rattle.order.specs.OneProof.{standing_prop};
 
-use crate::{Met, key_at, keys};
+use crate::{Met, comes_next, key_at};
 use contents::{Contents, Row};
 use meaning::{Index, Label};
 use tournament::Tournament;
 
-// A walk over all labels of an index.
+// A walk over all labels of an index. Whoever has places and keys of which `standing` is true has a walk that goes on from there.
 #[derive(Drop)]
 pub struct Walk<'a> {
-    index: &'a [u8],
+    pub index: &'a [u8],
     // The place in the index of each list's next label: of no account for no list, since memory is fixed.
-    places: [usize; Index::MOST_TAGS],
+    pub places: [usize; Index::MOST_TAGS],
     // The lists' keys there.
-    keys: Tournament,
+    pub keys: Tournament,
     // What was handed out comes before what is left, and the keys are the lists'.
     pub ghost standing: { Standing index.now places keys } by { standing_prop index.now places keys },
+}
+
+// Every list's place is that of its first label.
+fn first_places(contents: Contents<'_>, places: &mut [usize; Index::MOST_TAGS])
+    ensures { Filled contents.entry.index.now (tags contents.entry.index.now) places.new }
+{
+    for r in 0..contents.tags() {
+        places[r] = contents.row(r).offset();
+    }
 }
 
 impl<'a> Walk<'a> {
@@ -29,50 +38,42 @@ impl<'a> Walk<'a> {
         ensures index { result.index ≡ contents.entry.index }
         ensures begun { Begun contents.entry.index.now result.places }
     {
-        let lists = contents.tags();
-        let mut places = [0; Index::MOST_TAGS];
-        let mut keys = [0; Index::MOST_TAGS];
-        for r in 0..lists {
-            let row = contents.row(r);
-            let place = row.offset();
-            places[r] = place;
-            keys[r] = key_at(row, place);
-        }
-        let keys = Tournament::new(&keys[..lists]);
-        Walk {
+        // It is filled where it stands: to move its arrays would be to copy them.
+        let mut walk = Walk {
             index: contents.index,
-            places,
-            keys,
-        }
+            places: [0; Index::MOST_TAGS],
+            keys: Tournament::blank(contents.tags()),
+        };
+        first_places(contents, &mut walk.places);
+        walk.keys.fill(|r| {
+            let row = contents.row(r);
+            key_at(row, row.offset())
+        });
+        walk
     }
 
-    // What the least key names: the label of least start of those that are left, of equal ones that of the lowest list; or that none is left.
-    fn told(&self, least: u64) -> Option<Met>
-        requires { Names (lists_of self.now.index.now) (cursor self.now.index.now self.now.places) least }
-        ensures { Foretells (lists_of self.now.index.now) (cursor self.now.index.now self.now.places) result }
+    // A walk that goes on from the same place, by itself.
+    pub fn copy(&self) -> Walk<'a>
+        ensures index { result.index ≡ self.now.index }
+        ensures places { result.places ≡ self.now.places }
+        ensures keys { result.keys ≡ self.now.keys }
     {
-        if tournament::PAST <= least {
-            return None;
-        }
-        let list = keys::list_of(least);
-        let place = self.places[list];
-        let row = Row {
+        Walk {
             index: self.index,
-            number: list,
-        };
-        Some(Met {
-            list,
-            at: (place - row.offset()) / Label::BYTES,
-            start: keys::start_of(least),
-            end: label::end_at(self.index, place, 0),
-        })
+            places: self.places,
+            keys: self.keys.copy(),
+        }
     }
 
     // What comes next.
     pub fn comes_next(&self) -> Option<Met>
         ensures { Foretells (lists_of self.now.index.now) (cursor self.now.index.now self.now.places) result }
     {
-        self.told(self.keys.least())
+        comes_next(
+            Contents { index: self.index },
+            &self.places,
+            self.keys.least(),
+        )
     }
 
     // Hands out the label that comes next, which is list `list`'s, and tells what comes next then. A caller keeps that, so that no turn waits for what
@@ -89,6 +90,6 @@ impl<'a> Walk<'a> {
             number: list,
         };
         let least = self.keys.put(list, key_at(row, place));
-        self.told(least)
+        comes_next(Contents { index: self.index }, &self.places, least)
     }
 }

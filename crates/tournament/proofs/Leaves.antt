@@ -1,19 +1,17 @@
 -- The numbers that play, as a list: what a store makes of them, and that the root is the least of them.
-use Prim.Native.Nat.{ℕ, ◌+◌, ◌-◌, ◌*◌, ◌≤◌, ◌<◌}
+use Prim.Native.Nat.{ℕ, ◌+◌, ◌*◌, ◌≤◌, ◌<◌}
 use native.Mathlib.Nat.{eq-or-lt_of_le}
 use native.Mathlib.Decide.{ℕ_discrete}
 use native.Mathlib.Omega.{arith}
-use mathlib.Core.Path.{◌≡◌, refl, sym, ap, subst, ◌∙◌}
-use mathlib.Core.Logic.{⊎_elim}
+use mathlib.Core.Path.{◌≡◌, refl, sym, ◌∙◌}
+use mathlib.Core.Logic.{inl, ⊎_elim}
 use mathlib.Core.List.{List}
-use lib.ListN.{length, take, drop, set, length-set}
+use lib.ListN.{length, set, replicate, length-set}
 use lib.Seq.{get_or-set_same, get_or-set_other}
-use Rattle.std.proofs.lemmas.List.{length-take, length-drop, get_or-take, get_or-drop, ext_get_or}
-use Rattle.std.proofs.lemmas.Slice.{between-put_mid}
-use borrow.Rule.Slice.PartMut.{put_mid}
+use Rattle.std.proofs.lemmas.List.{length-take, length-drop, length-replicate, get_or-take, get_or-drop, get_or-replicate, ext_get_or}
 use Rattle.meaning.specs.Limits.{most_tags}
 use Rattle.meaning.specs.Bytes.{at}
-use Rattle.tournament.specs.Tournament.{past, nodes, leaves, SameLeaves, Put, Bracket, Least}
+use Rattle.tournament.specs.Tournament.{past, nodes, leaves, Put, Bracket, Least}
 use Rattle.tournament.proofs.Playing.{root_least, root_leaf}
 
 -- As many numbers as players.
@@ -24,18 +22,24 @@ leaves_long m xs few long = simp (length-take, length-drop) (omega arith)
 pub leaf_at : (m : ℕ) (xs : List ℕ) (j : ℕ) → j < m → at (leaves m xs) j ≡ at xs (m + j)
 leaf_at m xs j l = get_or-take m _ j 0 l ∙ get_or-drop m xs j 0
 
--- Numbers that were written to where the players stand, and stay there, are the numbers that play.
-pub leaves_new : (m k : ℕ) (xs numbers ys : List ℕ) → m ≤ most_tags → length xs ≡ nodes → length numbers ≡ m → length ys ≡ nodes → SameLeaves m (put_mid m k xs numbers) ys → leaves m ys ≡ numbers
-leaves_new m k xs numbers ys few xs-long numbers-long ys-long same =
-    ext_get_or 0 _ _ (leaves_long m ys few ys-long ∙ sym numbers-long) (λ j l. each j (omega (arith, leaves_long m ys few ys-long)))
-  where
-    wrote : leaves m (put_mid m k xs numbers) ≡ numbers
-    wrote =
-        let twice : 2 * m - m ≡ m = omega arith in
-        subst (λ (n : ℕ). take n (drop m (put_mid m k xs numbers)) ≡ numbers) twice (between-put_mid m k xs numbers (2 * m) (omega arith) (omega arith))
+-- Where all nodes are 0, each holds the lesser of its two.
+pub blank_bracket : (m : ℕ) → m ≤ most_tags → Bracket m (replicate nodes 0)
+blank_bracket m few = record {
+  few = few;
+  tree = record {
+    long = length-replicate {A = ℕ} nodes 0;
+    node = λ i p l.
+        let zero : (j : ℕ) → j < nodes → at (replicate nodes 0) j ≡ 0 = λ j k. get_or-replicate {A = ℕ} nodes j 0 0 k in
+        rw (zero i (omega arith), zero (2 * i) (omega arith), zero (2 * i + 1) (omega arith)) (record { left = omega arith; right = omega arith; one = inl refl });
+  };
+}
 
-    each : (j : ℕ) → j < m → at (leaves m ys) j ≡ at numbers j
-    each j l = leaf_at m ys j l ∙ same j l ∙ sym (leaf_at m (put_mid m k xs numbers) j l) ∙ ap (λ (zs : List ℕ). at zs j) wrote
+-- And so is each number that plays.
+pub blank_leaves : (m : ℕ) → m ≤ most_tags → leaves m (replicate nodes 0) ≡ replicate m 0
+blank_leaves m few = ext_get_or 0 _ _ (long ∙ sym (length-replicate {A = ℕ} m 0)) (λ j l. let k : j < m = omega (arith, long) in leaf_at m (replicate nodes 0) j k ∙ get_or-replicate {A = ℕ} nodes (m + j) 0 0 (omega arith) ∙ sym (get_or-replicate {A = ℕ} m j 0 0 k))
+  where
+    long : length (leaves m (replicate nodes 0)) ≡ m
+    long = leaves_long m (replicate nodes 0) few (length-replicate {A = ℕ} nodes 0)
 
 -- One number is another now.
 pub leaves_put : (m leaf key : ℕ) (xs ys : List ℕ) → Bracket m xs → leaf < m → Put m leaf key xs ys → leaves m ys ≡ set (leaves m xs) leaf key

@@ -1,8 +1,9 @@
 // The least of up to MOST_TAGS numbers, kept while they change: after one of them has changed, only the nodes above it are played again.
 #![tactic(auto)]
 
-ghost use Rattle.std.specs.Prelude.{◌≡◌, ◌+◌, ◌*◌, ◌%◌, ◌<◌, ◌≤◌, length, slice_set};
+ghost use Rattle.std.specs.Prelude.{ℕ, ◌≡◌, ◌+◌, ◌*◌, ◌%◌, ◌<◌, ◌≤◌, length, replicate, slice_set};
 ghost use Rattle.meaning.specs.Limits.{most_tags};
+ghost use Rattle.meaning.specs.Bytes.{at};
 ghost use Rattle.tournament.specs.Tournament.{Tree, SameLeaves, Least, nodes};
 
 use meaning::Index;
@@ -59,16 +60,48 @@ fn play(tree: &mut [u64; NODES], m: usize)
 }
 
 impl Tournament {
+    // A tournament in which each number is 0, for `fill`: it is filled where it stands, since to move what is so large is to copy it.
+    pub fn blank(players: usize) -> Tournament
+        requires { players ≤ most_tags }
+        ensures { result ≡ replicate players 0 }
+    {
+        Tournament {
+            nodes: [0; NODES],
+            players,
+        }
+    }
+
+    // Each player has the number that `number` gives for it, and all nodes are played.
+    pub fn fill<F: Fn(usize) -> u64>(&mut self, number: F)
+        requires { (j : ℕ) → j < length self.old → F.pre number j }
+        ensures many { length self.new ≡ length self.old }
+        ensures each { (j : ℕ) → j < length self.old → F.post number j (at self.new j) }
+    {
+        let players = self.players;
+        for j in 0..players {
+            self.nodes[players + j] = number(j);
+        }
+        play(&mut self.nodes, players);
+    }
+
     // The tournament in which these numbers play.
     pub fn new(numbers: &[u64]) -> Tournament
         requires { length numbers.now ≤ most_tags }
         ensures { result ≡ numbers.now }
     {
-        let players = numbers.len();
-        let mut nodes = [0; NODES];
-        nodes[players..2 * players].copy_from_slice(numbers);
-        play(&mut nodes, players);
-        Tournament { nodes, players }
+        let mut filled = Tournament::blank(numbers.len());
+        filled.fill(|j| numbers[j]);
+        filled
+    }
+
+    // A tournament of the same numbers, which goes its own way from here.
+    pub fn copy(&self) -> Tournament
+        ensures { result ≡ self.now }
+    {
+        Tournament {
+            nodes: self.nodes,
+            players: self.players,
+        }
     }
 
     // The least of all numbers; where none plays it is PAST.

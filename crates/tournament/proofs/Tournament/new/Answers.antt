@@ -1,10 +1,9 @@
--- `new` meets its contract: the numbers are written to where the players stand, and playing leaves them there.
-use Rattle.std.proofs.Common.{◌*◌, ◌-◌, refl, arith, ◌∙◌, length, replicate}
-use Rattle.tournament.specs.Tournament.{nodes}
-use Rattle.tournament.proofs.Leaves.{leaves_new}
+-- `new` meets its contract: each player was given its number.
+use Rattle.std.proofs.Common.{rules, of_calls, ℕ, ap, arith, length, ◌∙◌}
+use Rattle.std.proofs.lemmas.List.{length-replicate, ext_get_or}
 use Rattle.tournament.proofs.Tournament.new.Goals as goal
 
 pub returns : goal.returns
 returns c =
-    let m = length c.args.numbers.now in
-    leaves_new m (2 * m - m) (replicate nodes 0) c.copy_from_slice.new.self c.play.new.tree c.requires refl (omega arith) c.play.array_long c.play.ensures.leaves ∙ c.copy_from_slice.ensures.after
+    let blank = ap length c.blank-filled.ensures ∙ length-replicate {A = ℕ} _ 0 in
+    ext_get_or 0 _ _ (c.fill.ensures.many ∙ blank) (λ j l. let given = c.fill.ensures.each j (omega (arith, l, c.fill.ensures.many)) in search (rules, of_calls, given))

@@ -22,19 +22,19 @@ leaves_long m xs few long = simp (length-take, length-drop) (omega arith)
 pub leaf_at : (m : ℕ) (xs : List ℕ) (j : ℕ) → j < m → at (leaves m xs) j ≡ at xs (m + j)
 leaf_at m xs j l = get_or-take m _ j 0 l ∙ get_or-drop m xs j 0
 
--- Where all nodes are 0, each holds the lesser of its two.
-pub blank_bracket : (m : ℕ) → m ≤ most_tags → Bracket m (replicate nodes 0)
-blank_bracket m few = record {
+-- Where all nodes are one number, each holds the lesser of its two.
+pub blank_bracket : (m v : ℕ) → m ≤ most_tags → Bracket m (replicate nodes v)
+blank_bracket m v few = record {
   few = few;
   tree = record {
-    long = length-replicate {A = ℕ} nodes 0;
+    long = length-replicate {A = ℕ} nodes v;
     node = λ i p l.
-        let zero : (j : ℕ) → j < nodes → at (replicate nodes 0) j ≡ 0 = λ j k. get_or-replicate {A = ℕ} nodes j 0 0 k in
-        rw (zero i (omega arith), zero (2 * i) (omega arith), zero (2 * i + 1) (omega arith)) (record { left = omega arith; right = omega arith; one = inl refl });
+        let same : (j : ℕ) → j < nodes → at (replicate nodes v) j ≡ v = λ j k. get_or-replicate {A = ℕ} nodes j v 0 k in
+        rw (same i (omega arith), same (2 * i) (omega arith), same (2 * i + 1) (omega arith)) (record { left = omega arith; right = omega arith; one = inl refl });
   };
 }
 
--- And so is each number that plays.
+-- Where they are 0, so is each number that plays.
 pub blank_leaves : (m : ℕ) → m ≤ most_tags → leaves m (replicate nodes 0) ≡ replicate m 0
 blank_leaves m few = ext_get_or 0 _ _ (long ∙ sym (length-replicate {A = ℕ} m 0)) (λ j l. let k : j < m = omega (arith, long) in leaf_at m (replicate nodes 0) j k ∙ get_or-replicate {A = ℕ} nodes (m + j) 0 0 (omega arith) ∙ sym (get_or-replicate {A = ℕ} m j 0 0 k))
   where

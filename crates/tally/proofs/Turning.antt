@@ -8,6 +8,7 @@ use Rattle.std.specs.Prelude.{Option}
 use Rattle.meaning.specs.declared.Figures.{Figures}
 use Rattle.meaning.specs.declared.Label.{Label}
 use Rattle.meaning.specs.Bytes.{at}
+use Rattle.meaning.specs.Day.{label_at}
 use Rattle.meaning.specs.Waits.{Tagged, Ending, Traffic, in_body, traffic_of, Figured, no_figures}
 use Rattle.meaning.specs.Fit.{Sound}
 use Rattle.meaning.proofs.Laws.Waits.{figured_none}
@@ -17,6 +18,10 @@ use Rattle.tally.specs.Sights.{Whole, FirstStart, Decided, Becomes}
 use Rattle.tally.specs.Adding.{Small, Timed, added}
 use Rattle.tally.proofs.Deciding.{becomes}
 use Rattle.tally.proofs.Counting.{figured_small, becomes_timed, figured_added}
+
+-- A call that is read at a number is the call of each number that is equal to it, however the first is written.
+pub call_at : (body : List ℕ) (k i : ℕ) {c : Label} → c ≡ label_at body 0 k → k ≡ i → c ≡ label_at body 0 i
+call_at body k i e same = e ∙ ap (label_at body 0) same
 
 -- The records of a body before a place start no later than the calls from i on.
 pub record Passed (body : List ℕ) (calls : Tagged) (p i : ℕ) : Type 0 where

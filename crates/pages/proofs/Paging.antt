@@ -9,7 +9,7 @@ use mathlib.Core.Logic.{inl, inr, ⊎_elim}
 use mathlib.Core.Bool.{Bool, true, false, true≢false, false≢true}
 use mathlib.Core.List.{List, [], ◌∷◌, ◌++◌, append-nil, append_assoc}
 use lib.Dec.{ltb}
-use lib.ListN.{length, get_or, set, replicate, take, drop, take-append-drop, length-append, length-set}
+use lib.ListN.{length, get_or, set, replicate, take, drop, take-append-drop, length-append, length-drop, length-set}
 use lib.Seq.{paste, take_all, get_or-take, length-take-le, get_or-set_same, get_or-set_other, take-append_seam, take-take, take-nil, drop-drop}
 use Rattle.std.specs.Prelude.{Option}
 use Rattle.std.proofs.lemmas.List.{get_or-drop, length-take}
@@ -26,7 +26,7 @@ use Rattle.meaning.proofs.Laws.Record.{records_of, records_found}
 use Rattle.cursors.specs.declared.Plan.{Plan}
 use Rattle.cursors.specs.Plan.{plan_of, Planned}
 use Rattle.cursors.specs.Cursors.{AtMost, LeastPick, NoPick, Settled, found, ended, Unbroken}
-use Rattle.pages.specs.RowParts.{PartOf}
+use Rattle.pages.specs.RowParts.{PartOf, Put}
 use Rattle.cursors.proofs.Moves.{set_cases, edge_of, unbroken_before}
 
 -- i is the first returned record at `place` or later.
@@ -252,3 +252,21 @@ pub part_small : {b : List ℕ} {p : Plan} → Planned b p → {low : ℕ → �
 part_small planned ys least start width l i h =
     let k : i < width = omega (arith, length-take width (drop start ys)) in
     rw (get_or-take width (drop start ys) i 0 k, get_or-drop start ys i 0) (small planned ys least (start + i) (omega arith))
+
+-- The row after n rows is the part that is asked for.
+pub page_part : {a : Asked} (fit : Fit a) (step width : ℕ) {place room : ℕ} {entry out xs : List ℕ} {n first : ℕ} (w : Writing a (PartOf a step width) place room width entry out xs n first)
+    → n * width ≤ length entry → (ys : List ℕ) → LeastPick a (at xs) (at ys) → n < room → length ys ≡ 32 → a.steps ≤ 32 → step + width ≤ a.steps → (n + 1) * width ≤ length out
+    → {new : List ℕ} {to : ℕ} {v : List ℕ} (here first' : ℕ) → Put out to v new → v ≡ take width (drop step ys) → to ≡ n * width → here ≡ at ys a.returned + 1 → first' ≤ a.returned
+    → Writing a (PartOf a step width) place room width entry new (set ys a.returned here) (n + 1) first'
+page_part {a} fit step width {out = out} {n = n} w fits ys least more yl few within room {new} {to} {v} here first' put v_is to_is here_is fl =
+    let long : length v ≡ width = ap length v_is ∙ length-take-le width (drop step ys) (omega (arith, length-drop step ys, yl, few)) in
+    page_row fit w fits ys least more yl few v (take a.steps ys, evidence_of a fit _ w.floor ys least (omega (arith, yl, few)), v_is ∙ part_of ys a.steps step width within) long room
+    new to (length v) here first' put.is to_is long here_is fl
+
+-- A part of the cursors, by whatever numbers it is taken.
+pub part_as : (ys : List ℕ) (s m step width : ℕ) → s ≡ step → m ≡ width → take m (drop s ys) ≡ take width (drop step ys)
+part_as ys s m step width s_is m_is = rw (s_is, m_is) refl
+
+-- It is no longer than the number by which it is taken.
+pub part_within : (to n len : ℕ) (t : List ℕ) → to + n ≤ len → to + length (take n t) ≤ len
+part_within to n len t l = omega (arith, length-take n t, l)

@@ -4,12 +4,11 @@
 mod rows;
 
 ghost use Rattle.std.specs.Prelude.{◌≡◌, ℕ, ◌+◌, ◌-◌, ◌/◌, ◌<◌, ◌≤◌, false, length, set, replicate};
-ghost use Rattle.std.proofs.Math.Seq.{paste};
 ghost use Rattle.meaning.specs.Limits.{most_labels, most_steps};
 ghost use Rattle.meaning.specs.Bytes.{at};
 ghost use Rattle.meaning.specs.Pages.{Paged};
 ghost use Rattle.cursors.specs.Plan.{plan_of, planned_step, Planned};
-ghost use Rattle.pages.specs.RowParts.{PartOf};
+ghost use Rattle.pages.specs.RowParts.{PartOf, Put};
 
 use cursors::{Engine, Plan};
 use meaning::{Page, Step};
@@ -32,7 +31,7 @@ fn start_from(returned: usize, place: usize) -> [usize; Step::MOST]
 fn put_row(out: &mut [u32], to: usize, part: &[usize])
     requires within { to + length part.now ≤ length out.old }
     requires small { (i : ℕ) → i < length part.now → at part.now i < most_labels }
-    ensures { out.new ≡ paste out.old to part.now (length part.now) }
+    ensures { Put out.old to part.now out.new }
 {
     let row = &mut out[to..to + part.len()];
     for (i, position) in row.iter_mut().enumerate() {

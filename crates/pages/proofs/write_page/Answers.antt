@@ -1,9 +1,8 @@
 -- `write_page` meets its contract: each way round its loop, and each way out, is a lemma of Paging.
-use Rattle.std.proofs.Common.{◌≡◌, ℕ, ◌+◌, ◌≤◌, List, length, take, drop, refl, arith, ◌-◌, ◌*◌, length-drop}
-use Rattle.std.proofs.lemmas.List.{length-take, length-take-le}
+use Rattle.std.proofs.Common.{ℕ, ◌+◌, length, refl, arith, ◌-◌}
 use Rattle.cursors.specs.Plan.{plan_of}
 use Rattle.cursors.proofs.SettleTurns.{ret_of, ret_few, steps_of}
-use Rattle.pages.proofs.Paging.{page_begin, page_done, page_full, page_row, page_as, evidence_of, part_of, settled_found, settled_none, rows_fit, row_on, small, part_small}
+use Rattle.pages.proofs.Paging.{page_begin, page_done, page_full, page_part, page_as, part_as, settled_found, settled_none, rows_fit, row_on, part_within, small, part_small}
 use Rattle.pages.proofs.write_page.Goals as goal
 
 pub loop-rows-init : goal.loop-rows-init
@@ -36,10 +35,19 @@ returns-then-not-settle-2-clause-paged c =
     page_as refl refl c.last_page-then-not-settle-2.ensures
     (page_done c.requires.planned.fit w (rows_fit _ _ _ w.n_le) (settled_none c.if-not-settle-2.ensures.settled refl) _ (omega arith) _)
 
+pub loop-rows-preserved : goal.loop-rows-preserved
+unfolding plan_of
+loop-rows-preserved c =
+    let w = c.loop-rows.invariant in
+    let width : ℕ = c.args.steps.end - c.args.steps.start in
+    page_part c.requires.planned.fit c.args.steps.start width w (rows_fit _ _ _ w.n_le) c.settle.new.pos (settled_found c.if-not-settle.ensures.settled refl) (omega arith) c.settle.ensures.long
+    c.requires.planned.few (omega (arith, c.requires.within, c.requires.some)) (omega (arith, w.same, rows_fit (c.loop-rows.rows + 1) width (length c.args.out.now) (omega arith)))
+    _ _ c.put_row.ensures (part_as c.settle.new.pos _ _ c.args.steps.start width (omega arith) (omega arith)) (omega arith) (omega arith) (omega arith)
+
 pub put_row-requires-clause-within : goal.put_row-requires-clause-within
 put_row-requires-clause-within c =
     let width : ℕ = c.args.steps.end - c.args.steps.start in
-    omega (arith, length-take width (drop c.args.steps.start c.settle.new.pos), row_on c.loop-rows.rows width, rows_fit (c.loop-rows.rows + 1) width (length c.args.out.now) (omega arith), c.loop-rows.invariant.same)
+    part_within _ _ _ _ (omega (arith, row_on c.loop-rows.rows width, rows_fit (c.loop-rows.rows + 1) width (length c.args.out.now) (omega arith), c.loop-rows.invariant.same))
 
 pub put_row-requires-clause-small : goal.put_row-requires-clause-small
 put_row-requires-clause-small c =
@@ -50,23 +58,6 @@ overflow_add-pos c = record { fits = omega (arith, small c.requires.planned c.se
 
 pub overflow_cast-result : goal.overflow_cast-result
 overflow_cast-result c = record { fits = omega (arith, ret_few c.requires.planned, small c.requires.planned c.settle-2.new.pos (settled_found c.if-not-settle-2.ensures.settled refl) _ (ret_of c.requires.planned)) }
-
-pub loop-rows-preserved : goal.loop-rows-preserved
-unfolding plan_of
-loop-rows-preserved c =
-    let l = c.loop-rows in
-    let w = l.invariant in
-    let plan = c.args.engine.now.plan.now in
-    let pos : List ℕ = c.settle.new.pos in
-    let start : ℕ = c.args.steps.start in
-    let width : ℕ = c.args.steps.end - start in
-    let least = settled_found c.if-not-settle.ensures.settled refl in
-    let within : start + width ≤ plan.count = omega (arith, c.requires.within, c.requires.some) in
-    let part : List ℕ = take width (drop start pos) in
-    let long : length part ≡ width = length-take-le width (drop start pos) (omega (arith, length-drop start pos, c.settle.ensures.long, c.requires.planned.few)) in
-    page_row c.requires.planned.fit w (rows_fit _ _ _ w.n_le) pos least (omega arith) c.settle.ensures.long c.requires.planned.few part
-    (take plan.count pos, evidence_of _ c.requires.planned.fit l.pos w.floor pos least (omega (arith, c.settle.ensures.long, c.requires.planned.few)), part_of pos plan.count start width within)
-    long (omega (arith, w.same, rows_fit (l.rows + 1) width (length c.args.out.now) (omega arith))) _ (l.rows * width) (length part) _ _ c.put_row.ensures (omega arith) (omega (arith, long)) (omega arith) (omega arith)
 
 pub returns-clause-paged : goal.returns-clause-paged
 unfolding plan_of

@@ -9,4 +9,4 @@ abbrev pub invariant-loop-pair : goal.invariant-loop-pair
 invariant-loop-pair l =
     let rest = windows_rest l.pair-iterator in
     let i = length l.times - length rest in
-    (windows_size l.pair-iterator ≡ 2) × (length rest ≤ length l.times) × (rest ≡ drop i l.times) × Decides (DescendTo l.times (i + 1)) l.smaller
+    (windows_size l.pair-iterator ≡ 2) × (length rest ≤ length l.times) × Decides (DescendTo l.times (i + 1)) l.smaller × (rest ≡ drop i l.times)

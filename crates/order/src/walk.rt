@@ -1,8 +1,9 @@
 // A walk: the lists' places in the index, and a tournament of their keys there.
-ghost use Rattle.std.specs.Prelude.{◌≡◌};
-ghost use Rattle.meaning.specs.Day.{tags, lists_of};
+ghost use Rattle.std.specs.Prelude.{◌≡◌, ◌<◌};
+ghost use Rattle.meaning.specs.Day.{tags, offset, lists_of};
 ghost use Rattle.order.specs.Walk.{Ascend, Comes, Foretells};
-ghost use Rattle.order.specs.Standing.{cursor, Filled, Standing, Begun, HandsOut};
+ghost use Rattle.order.specs.Standing.{position_at, cursor, Filled, Standing, Begun, HandsOut};
+ghost use Rattle.order.specs.Keys.{Key};
 ghost use Rattle.order.specs.OneProof.{standing_prop};
 
 use crate::{Met, comes_next, key_at};
@@ -31,6 +32,15 @@ fn first_places(contents: Contents<'_>, places: &mut [usize; Index::MOST_TAGS])
     }
 }
 
+// The key of list r at its first label.
+fn first_key(contents: Contents<'_>, r: usize) -> u64
+    requires { r < tags contents.index.now }
+    ensures { Key (lists_of contents.entry.index.now) r (position_at contents.entry.index.now r (offset contents.entry.index.now r)) result }
+{
+    let row = contents.row(r);
+    key_at(row, row.offset())
+}
+
 impl<'a> Walk<'a> {
     // Begins a walk: nothing was handed out.
     pub fn begin(contents: Contents<'a>) -> Walk<'a>
@@ -38,17 +48,15 @@ impl<'a> Walk<'a> {
         ensures index { result.index ≡ contents.entry.index }
         ensures begun { Begun contents.entry.index.now result.places }
     {
+        let lists = contents.tags();
         // It is filled where it stands: to move its arrays would be to copy them.
         let mut walk = Walk {
             index: contents.index,
             places: [0; Index::MOST_TAGS],
-            keys: Tournament::blank(contents.tags()),
+            keys: Tournament::blank(lists),
         };
         first_places(contents, &mut walk.places);
-        walk.keys.fill(|r| {
-            let row = contents.row(r);
-            key_at(row, row.offset())
-        });
+        walk.keys.fill(|r| first_key(contents, r));
         walk
     }
 

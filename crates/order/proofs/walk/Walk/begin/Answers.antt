@@ -6,7 +6,7 @@ use Rattle.order.proofs.walk.Walk.begin.Goals as goal
 
 pub invariant_of-walk : goal.invariant_of-walk
 invariant_of-walk c =
-    let many = c.fill.ensures.many ∙ ap length c.blank.ensures ∙ length-replicate {A = ℕ} _ 0 ∙ c.tags.ensures in
+    let many = c.fill.ensures.many ∙ ap length c.blank.ensures ∙ length-replicate {A = ℕ} _ 0 ∙ c.tags-lists.ensures in
     record {
       standing = filled_standing _ _ c.args.contents.placed c.requires.ascend c.first_places.ensures _ many
           (λ r l. let given = c.fill.ensures.each r (omega (arith, l, many, c.fill.ensures.many)) in search (rules, of_calls, given));
